@@ -4,17 +4,18 @@ use mathlib.Core.Path.{_≡_, sym, ap, _∙_, subst, subst₂}
 use mathlib.Core.Logic.{_⊎_, inl, inr}
 use mathlib.Core.Bool.{Bool, not}
 use Prim.Native.Nat.{ℕ, suc, _+_, _-_, _*_, _/_, _%_, _^_, _≤_, _<_}
-use native.Mathlib.Nat.{le-trans, le-of-eq, zero-add, lt-of-le-of-lt, lt-of-lt-of-le, not-le-of-lt, mul-assoc, mod-eq-of-lt, mul-le-mul-right, mul-lt-mul-of-pos-right}
+use native.Mathlib.Nat.{le-trans, le-of-eq, zero-add, lt-of-le-of-lt, lt-of-lt-of-le, not-le-of-lt, mul-assoc, mul-comm, mul-div-cancel, le-of-mul-le-mul-right, lt-of-mul-lt-mul-right, mod-eq-of-lt, mul-le-mul-right, mul-lt-mul-of-pos-right}
 use native.Mathlib.Omega.{arith}
 use lib.Dec.{T}
 use lib.Pow.{pow-add, pow-pos, pow-mono}
 use lib.Count.{leadingZeros, leading-top}
-use lib.Ieee.{Float, nan, inf, fin, binary32, isNan, toBits}
+use lib.Ieee.{Float, nan, inf, fin, binary32, isNan, toBits, size}
+use lib.Ieee.Digits.{size-lt, size-le}
 use Rattle.units.specs.Units.{mag, negative, Number}
 use Rattle.units.proofs.Naturals.{le-or-lt, pow-back-lt}
 use Rattle.units.proofs.Size.{mag-lt}
 use Rattle.units.proofs.Bits.{signBit, pattern-subnormal, pattern-normal}
-use Rattle.fixed.specs.Parts.{Positive, Apart}
+use Rattle.fixed.specs.Parts.{Positive, Apart, exponent, significand}
 
 pub no-nan : (x : Float) → Number x → T (not (isNan x))
 unfolding isNan
@@ -93,8 +94,8 @@ module _ (x : Float) (p : Positive x) where
   pub apart-low : b < 2 ^ 23 → Apart x (b * 2 ^ (leadingZeros 32 b - 8) % 4294967296) (24 - (leadingZeros 32 b - 8))
   apart-low h = apart-units b (units-above h) h x (low-is h)
 
-  exponent : (k m : ℕ) → 2 ^ 23 ≤ m → m * 2 ^ k < 2 ^ 277 → k < 254
-  exponent k m l h =
+  exponent-in : (k m : ℕ) → 2 ^ 23 ≤ m → m * 2 ^ k < 2 ^ 277 → k < 254
+  exponent-in k m l h =
       let c : 23 + k < 277 = pow-back-lt (23 + k) 277 (lt-of-le-of-lt (le-trans (le-of-eq (pow-add 2 23 k)) (mul-le-mul-right (2 ^ k) l)) h) in
       omega arith
 
@@ -111,7 +112,7 @@ module _ (x : Float) (p : Positive x) where
           let e : b ≡ k * 8388608 + m = t .bits ∙ plain (k * 8388608 + m) in
           let q : b / 8388608 + 23 ≡ k + 24 = omega arith in
           let r : b % 8388608 + 8388608 ≡ m = omega arith in
-          let kk : k < 254 = exponent k m least (lt-of-le-of-lt (le-of-eq (sym (t .units))) (mag-lt x (p .number))) in
+          let kk : k < 254 = exponent-in k m least (lt-of-le-of-lt (le-of-eq (sym (t .units))) (mag-lt x (p .number))) in
           subst₂ (λ (a c : ℕ). Apart x a c) (sym r) (sym q)
           (record {
             same = ap (λ (n : ℕ). n * 2 ^ 24) (t .units) ∙ mul-assoc m (2 ^ k) (2 ^ 24) ∙ ap (λ (n : ℕ). m * n) (sym (pow-add 2 k 24));
@@ -121,3 +122,37 @@ module _ (x : Float) (p : Positive x) where
             high = omega arith;
           })
       go (inr l) = absurd (not-le-of-lt l (le-trans h (le-of-eq (pattern-subnormal x (p .number) l ∙ plain (mag x)))))
+
+-- ---- the parts of a float are its own: two ways to take it apart agree
+pub unique : (x : Float) (m e : ℕ) → Apart x m e → (e ≡ exponent x) × (m ≡ significand x)
+unfolding exponent significand
+unique x m e a = (is-size, sym (ap (λ (n : ℕ). n / 2 ^ size (mag x)) (a .same) ∙ ap (λ (n : ℕ). m * 2 ^ e / 2 ^ n) (sym is-size) ∙ mul-div-cancel m (pow-pos e)))
+  where
+    upper : mag x < 2 ^ e
+    upper = lt-of-mul-lt-mul-right (2 ^ 24) (lt-of-le-of-lt (le-of-eq (a .same)) (lt-of-lt-of-le (mul-lt-mul-of-pos-right (a .digits) (pow-pos e)) (le-of-eq (mul-comm (2 ^ 24) (2 ^ e)))))
+
+    lower : 2 ^ (e - 1) ≤ mag x
+    lower =
+        let l = a .low in
+        let c : 23 + e ≡ e - 1 + 24 = omega arith in
+        le-of-mul-le-mul-right
+        (le-trans (le-of-eq (sym (pow-add 2 (e - 1) 24) ∙ ap (λ (n : ℕ). 2 ^ n) (sym c) ∙ pow-add 2 23 e)) (le-trans (mul-le-mul-right (2 ^ e) (a .least)) (le-of-eq (sym (a .same)))))
+        (pow-pos 24)
+
+    is-size : e ≡ size (mag x)
+    is-size =
+        let l = a .low in
+        let h : size (mag x) ≤ e = size-le (mag x) e upper in
+        let k : e - 1 < size (mag x) = pow-back-lt (e - 1) (size (mag x)) (lt-of-le-of-lt lower (size-lt (mag x))) in
+        omega arith
+
+-- every float above zero is its significand times a power of two
+pub own : (x : Float) → Positive x → Apart x (significand x) (exponent x)
+own x p = go (le-or-lt (2 ^ 23) (toBits binary32 x))
+  where
+    by : (m e : ℕ) → Apart x m e → Apart x (significand x) (exponent x)
+    by m e a = let (f, d) = unique x m e a in subst₂ (λ (n k : ℕ). Apart x n k) d f a
+
+    go : (2 ^ 23 ≤ toBits binary32 x) ⊎ (toBits binary32 x < 2 ^ 23) → Apart x (significand x) (exponent x)
+    go (inl h) = by _ _ (apart-high x p h)
+    go (inr h) = by _ _ (apart-low x p h)

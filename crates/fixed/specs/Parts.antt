@@ -1,8 +1,8 @@
 -- A float above zero, taken apart. Definitions only.
 use mathlib.Core.Path.{_≡_}
-use Prim.Native.Nat.{ℕ, _*_, _^_, _≤_, _<_}
+use Prim.Native.Nat.{ℕ, _*_, _/_, _^_, _≤_, _<_}
 use mathlib.Core.Bool.{false}
-use lib.Ieee.{Float}
+use lib.Ieee.{Float, size}
 use Rattle.units.specs.Units.{Number, mag, negative}
 
 -- x is a finite float above zero
@@ -18,3 +18,10 @@ pub record Apart (x : Float) (m e : ℕ) : Type 0 where
   pub digits : m < 2 ^ 24
   pub low : 1 ≤ e
   pub high : e ≤ 277
+
+-- the exponent and the significand of a float above zero, by its units
+unfoldable pub exponent : Float → ℕ
+exponent x = size (mag x)
+
+unfoldable pub significand : Float → ℕ
+significand x = mag x * 2 ^ 24 / 2 ^ size (mag x)

@@ -3,7 +3,7 @@
 use mathlib.Core.Path.{_≡_, refl, sym, ap, _∙_, subst}
 use mathlib.Core.Logic.{_⊎_, inl, inr}
 use Prim.Native.Nat.{ℕ, zero, suc, _+_, _-_, _*_, _/_, _%_, _^_, _≤_, _<_}
-use native.Mathlib.Nat.{le-trans, le-of-eq, lt-of-le-of-lt, lt-of-lt-of-le, not-le-of-lt, add-zero, add-assoc, div-one, mul-assoc, mul-div-cancel, le-of-mul-le-mul-right, lt-of-mul-lt-mul-right, pow-succ'}
+use native.Mathlib.Nat.{le-trans, le-of-eq, lt-of-le-of-lt, lt-of-lt-of-le, not-le-of-lt, zero-add, add-zero, add-assoc, div-one, mul-assoc, mul-div-cancel, le-of-mul-le-mul-right, lt-of-mul-lt-mul-right, pow-succ'}
 use native.Mathlib.Omega.{arith}
 use mathlib.Core.Bool.{Bool, true, false, not, cond}
 use lib.Dec.{T, leb, ltb, eqb, eqb→eq, not-T}
@@ -100,6 +100,13 @@ no-nan s b h = subst (λ (t : Bool). T (not t)) (sym (nanBits-above binary32 (si
     low : (s : Bool) → (signBit s + b) % 2147483648 ≤ 2139095040
     low true = omega arith
     low false = omega arith
+
+-- both laws with no sign's bit written
+pub put-positive : (S g : ℕ) → (g ≡ 0) ⊎ (2 ^ 23 ≤ S) → S ≤ 2 ^ 24 → g * 8388608 + S < 255 * 8388608 → Is (ofBits binary32 (g * 8388608 + S)) false (S * 2 ^ g)
+put-positive S g shape top below = subst (λ (b : ℕ). Is (ofBits binary32 b) false (S * 2 ^ g)) (zero-add (g * 8388608 + S)) (put false S g shape top below)
+
+pub no-nan-positive : (b : ℕ) → b < 255 * 8388608 → T (not (nanBits binary32 b))
+no-nan-positive b h = subst (λ (n : ℕ). T (not (nanBits binary32 n))) (zero-add b) (no-nan false b h)
 
 -- ---- the way back: the pattern of a float, by its units
 pub pattern : (x : Float) → Number x → toBits binary32 x ≡ signBit (negative x) + (size (mag x) - 24) * 8388608 + mag x / 2 ^ (size (mag x) - 24)

@@ -10,12 +10,14 @@ use lib.IntN.{ℤ}
 use lib.Dec.{T, ltb, eqb}
 use lib.Pow.{pow-pos}
 use borrow.Author.Tests.{ltb-true, ltb-false, lt-ltb, le-ltb, eqb-true, eqb-false, eq-eqb, ne-eqb}
-use lib.Ieee.{Float, nan, inf, fin, up, down, below, level, lt, eq, le}
+use lib.Ieee.{Float, nan, inf, fin, binary32, fits, ofBits, up, down, below, level, lt, eq, le}
 use lib.Ieee.Fits.{down-pos}
 use lib.Ieee.Scale.{finite}
 use Rattle.units.specs.Units.{mag, negative, Number, P, N, Le, Lt}
 use Rattle.units.proofs.Naturals.{le-or-lt}
 use Rattle.units.proofs.Size.{mag-exact}
+use Rattle.units.proofs.Signs.{plus-of, minus-of, sides, size-sum}
+use Rattle.units.proofs.Bits.{Is, put-positive}
 
 -- ---- tests on numbers in one proportion agree
 module _ (u v : ℕ) (pu : 0 < u) (pv : 0 < v) where
@@ -160,3 +162,53 @@ finite-below-inf (fin s m e) nan f a b = true≢false (sym a)
 finite-below-inf (fin s m e) (inf true) f a b = true≢false (sym a)
 finite-below-inf (fin s m e) (inf false) f a b = true≢false (sym b)
 finite-below-inf (fin s m e) (fin t n d) f a b = tt
+
+-- the tests with which a function of floats at least zero begins: 0 ≤ x, and x below the infinity
+zero-is : Is (ofBits binary32 0) false 0
+zero-is = put-positive 0 0 (inl refl) (omega arith) (omega arith)
+
+infinity-is : ofBits binary32 2139095040 ≡ inf false
+unfolding ofBits
+infinity-is = refl
+
+finite-lt-infinity : (x : Float) → T (finite x) → lt x (inf false) ≡ true
+unfolding lt
+finite-lt-infinity nan h = absurd h
+finite-lt-infinity (inf s) h = absurd h
+finite-lt-infinity (fin s m e) h = refl
+
+module _ (x : Float) where
+  pub at-least-zero : T (fits binary32 x) → le (ofBits binary32 0) x ≡ true → lt x (ofBits binary32 2139095040) ≡ true → Number x × (N x ≡ 0)
+  at-least-zero f a b =
+      let z = zero-is in
+      let h : Number x = record { fits32 = f; is-finite = finite-below-inf (ofBits binary32 0) x (z .number .is-finite) a (ap (lt x) (sym infinity-is) ∙ b) } in
+      let l = le-true (ofBits binary32 0) x (z .number) h a in
+      let p = plus-of (ofBits binary32 0) (z .sign) ∙ z .units in
+      let n = minus-of (ofBits binary32 0) (z .sign) in
+      (h, elim (sides x) [ inl c ↦ c .1 | inr c ↦ omega arith ])
+
+  pub below-zero : Number x → le (ofBits binary32 0) x ≡ false → N x ≡ 0 → ⊥
+  below-zero h a e =
+      let z = zero-is in
+      let l = le-false (ofBits binary32 0) x (z .number) h a in
+      let p = plus-of (ofBits binary32 0) (z .sign) ∙ z .units in
+      omega arith
+
+  pub not-finite : Number x → lt x (ofBits binary32 2139095040) ≡ false → ⊥
+  not-finite h a = true≢false (sym (finite-lt-infinity x (h .is-finite)) ∙ ap (lt x) (sym infinity-is) ∙ a)
+
+  -- the test with zero
+  pub eq-zero : Number x → eq x (ofBits binary32 0) ≡ true → mag x ≡ 0
+  eq-zero h a =
+      let z = zero-is in
+      let e = eq-true x (ofBits binary32 0) h (z .number) a in
+      let p = plus-of (ofBits binary32 0) (z .sign) ∙ z .units in
+      let n = minus-of (ofBits binary32 0) (z .sign) in
+      elim (sides x) [ inl c ↦ omega arith | inr c ↦ omega arith ]
+
+  pub eq-not-zero : Number x → eq x (ofBits binary32 0) ≡ false → 0 < mag x
+  eq-not-zero h a =
+      let z = zero-is in
+      let p = plus-of (ofBits binary32 0) (z .sign) ∙ z .units in
+      let n = minus-of (ofBits binary32 0) (z .sign) in
+      elim (le-or-lt (mag x) 0) [ inl k ↦ absurd (eq-false x (ofBits binary32 0) h (z .number) a (omega (arith, size-sum x))) | inr k ↦ k ]
