@@ -1,3 +1,4 @@
 pub mod Least
 pub mod Steps
 pub mod SquareRoot
+pub mod ReciprocalRoot

@@ -13,6 +13,7 @@ use lib.Ieee.{Float, binary32, ofBits}
 use Rattle.units.specs.Units.{mag, negative, P, N, Number, Le, Lt}
 use Rattle.units.proofs.Naturals.{le-or-lt}
 use Rattle.units.proofs.Signs.{size-sum, sign-plus}
+use Rattle.units.proofs.Answers.{given, declined}
 use Rattle.units.proofs.Bits.{Is, put-positive}
 use Rattle.fixed.specs.Parts.{Positive, Apart, significand, exponent}
 use Rattle.fixed.proofs.Take.{unique, own}
@@ -249,7 +250,7 @@ promised x before after a e = record {
 
 pub refused : (x before : Float) → ¬ Accepts x → Sqrt x 1 before before
 refused x before n = record {
-  answers = record { success = λ h. absurd (n h); refusal = λ h. refl; kept = λ h. refl; value = λ h. absurd (n h); finite = λ h. absurd (n h) };
+  answers = declined sqrtOf x before n;
   nearest = λ h. absurd (n h);
   zero = λ h. absurd (n h);
   order = λ h. absurd (n h);

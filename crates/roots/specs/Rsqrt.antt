@@ -32,7 +32,12 @@ pub record Within (a b : ℕ) (x r : Float) : Type 0 where
   pub at-least : (b - a) * (b - a) * 2 ^ 447 ≤ b * b * (mag x * (P r * P r))
   pub at-most : b * b * (mag x * (P r * P r)) ≤ (b + a) * (b + a) * 2 ^ 447
 
--- the whole number nearest to √(t / m) for t = 2 ^ k: the least h with √(t / m) ≤ h + 1/2, looked for below 2 ^ 25
+-- h is the whole number nearest to √(t / m): h - 1/2 < √(t / m) ≤ h + 1/2
+pub record IsNearRecip (t m h : ℕ) : Type 0 where
+  pub over : 4 * t ≤ (2 * h + 1) * (2 * h + 1) * m
+  pub under : (2 * h - 1) * (2 * h - 1) * m < 4 * t
+
+-- that number: the least h with √(t / m) ≤ h + 1/2, looked for below 2 ^ 25
 unfoldable pub nearRecip : ℕ → ℕ → ℕ
 nearRecip t m = least (λ h. leb (4 * t) ((2 * h + 1) * (2 * h + 1) * m)) (2 ^ 25)
 

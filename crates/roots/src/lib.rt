@@ -3,9 +3,10 @@
 mod guess;
 
 ghost use mathlib.Core.Path.{_≡_};
-ghost use Prim.Native.Nat.{_<_, _≤_, _^_};
+ghost use Prim.Native.Nat.{_+_, _*_, _/_, _<_, _≤_, _^_};
 ghost use Rattle.fixed.specs.Parts.{Positive};
 ghost use Rattle.roots.specs.Sqrt.{IsNear, Sqrt, sqrtOf};
+ghost use Rattle.roots.specs.Rsqrt.{IsNearRecip, Rsqrt, rsqrtOf};
 
 // The whole number nearest to the root of n, whatever the guess: the tests of the two loops are the statement.
 fn settle_root(n: u64, guess: u64) -> u64
@@ -46,6 +47,62 @@ pub fn sqrt(x: f32, out: &mut f32) -> u32
                 return 0;
             }
             *out = root_above_zero(x);
+            return 0;
+        }
+        return 1;
+    }
+    1
+}
+
+// (2 h + 1)^2 m in steps of 2 ^ 32, cut off: the product has up to 78 digits, and is taken in two limbs.
+fn odd_square(h: u64, m: u64) -> u64
+    requires { ⌜ (h < 2 ^ 26) × (m < 2 ^ 24) ⌝ }
+    ensures { λ r. ⌜ r ≡ (2 * h + 1) * (2 * h + 1) * m / 4294967296 ⌝ }
+{
+    let o = 2 * h + 1;
+    let a = o * o;
+    a / 4294967296 * m + a % 4294967296 * m / 4294967296
+}
+
+// The whole number nearest to the root of t 2 ^ 30 / m, whatever the guess: the tests of the two loops are the statement.
+fn settle_reciprocal(m: u64, t: u64, guess: u64) -> u64
+    requires { ⌜ (2 ^ 23 ≤ m) × (m < 2 ^ 24) × (1 ≤ t) × (t ≤ 2 ^ 41) × (guess < 2 ^ 26) ⌝ }
+    ensures { λ h. ⌜ IsNearRecip (t * 2 ^ 30) m h ⌝ }
+{
+    let mut h = guess;
+    while odd_square(h, m) < t {
+        h += 1;
+    }
+    while t <= odd_square(h - 1, m) {
+        h -= 1;
+    }
+    h
+}
+
+// The reciprocal root of a float above zero: the power of two over the significand has 47 or 48 digits before the point, its root 24.
+fn reciprocal_above_zero(x: f32) -> f32
+    requires { ⌜ Positive x ⌝ }
+    ensures { λ r. ⌜ r ≡ rsqrtOf x ⌝ }
+{
+    let p = fixed::apart(x);
+    let m = p.m;
+    let e = p.e;
+    let k = 401 - e;
+    let t = 1 << (40 + k % 2);
+    let h = settle_reciprocal(m as u64, t, guess::reciprocal(m, e));
+    f32::from_bits(k / 2 * 8388608 + h as u32)
+}
+
+// The nearest float to 1 over the root of x; code 1 and nothing written where x is a NaN, at most zero or an infinity.
+pub fn rsqrt(x: f32, out: &mut f32) -> u32
+    ensures { λ code. ⌜ Rsqrt x code (now (out .entry)) (now (out .exit)) ⌝ }
+{
+    if 0.0 <= x {
+        if x < f32::from_bits(0x7f80_0000) {
+            if x == 0.0 {
+                return 1;
+            }
+            *out = reciprocal_above_zero(x);
             return 0;
         }
         return 1;

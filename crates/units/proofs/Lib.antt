@@ -4,3 +4,4 @@ pub mod Signs
 pub mod Gaps
 pub mod Bits
 pub mod Order
+pub mod Answers

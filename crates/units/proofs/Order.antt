@@ -3,7 +3,7 @@
 use mathlib.Core.Path.{_≡_, refl, sym, ap, _∙_, subst}
 use mathlib.Core.Logic.{_⊎_, inl, inr}
 use Prim.Native.Nat.{ℕ, _+_, _*_, _^_, _≤_, _<_}
-use native.Mathlib.Nat.{le-trans, le-of-eq, lt-of-lt-of-le, lt-of-le-of-lt, zero-mul, mul-assoc, mul-comm, mul-right-comm, mul-pos, mul-le-mul-right, le-of-mul-le-mul-right, mul-lt-mul-of-pos-right, lt-of-mul-lt-mul-right}
+use native.Mathlib.Nat.{zero-mul, mul-assoc, mul-comm, mul-right-comm, mul-pos}
 use native.Mathlib.Omega.{arith}
 use mathlib.Core.Bool.{Bool, true, false, _&&_, _||_, Bool·beq, true≢false, cond}
 use lib.IntN.{ℤ}
@@ -14,7 +14,7 @@ use lib.Ieee.{Float, nan, inf, fin, binary32, fits, ofBits, up, down, below, lev
 use lib.Ieee.Fits.{down-pos}
 use lib.Ieee.Scale.{finite}
 use Rattle.units.specs.Units.{mag, negative, Number, P, N, Le, Lt}
-use Rattle.units.proofs.Naturals.{le-or-lt}
+use Rattle.units.proofs.Naturals.{le-or-lt, proportion-le, proportion-lt}
 use Rattle.units.proofs.Size.{mag-exact}
 use Rattle.units.proofs.Signs.{plus-of, minus-of, sides, size-sum}
 use Rattle.units.proofs.Bits.{Is, put-positive}
@@ -25,9 +25,8 @@ module _ (u v : ℕ) (pu : 0 < u) (pv : 0 < v) where
   same-ltb a b x y p q = go (le-or-lt y x)
     where
       go : (y ≤ x) ⊎ (x < y) → ltb a b ≡ ltb x y
-      go (inl h) = le-ltb a b (le-of-mul-le-mul-right (le-trans (le-of-eq q) (le-trans (mul-le-mul-right v h) (le-of-eq (sym p)))) pu) ∙ sym (le-ltb x y h)
-      go (inr h) =
-          lt-ltb a b (lt-of-mul-lt-mul-right u (lt-of-le-of-lt (le-of-eq p) (lt-of-lt-of-le (mul-lt-mul-of-pos-right h pv) (le-of-eq (sym q))))) ∙ sym (lt-ltb x y h)
+      go (inl h) = le-ltb a b (proportion-le u v q p pu h) ∙ sym (le-ltb x y h)
+      go (inr h) = lt-ltb a b (proportion-lt u v p q pv h) ∙ sym (lt-ltb x y h)
 
   same-eqb : (a b x y : ℕ) → a * u ≡ x * v → b * u ≡ y * v → eqb a b ≡ eqb x y
   same-eqb a b x y p q = go (le-or-lt x y) (le-or-lt y x) (same-ltb a b x y p q) (same-ltb b a y x q p)
