@@ -1,0 +1,20 @@
+// The C interface: one thin function for each, with the whole promise as its contract. include/earmath.h says the same in words.
+
+ghost use Rattle.roots.specs.Sqrt.{Sqrt};
+ghost use Rattle.roots.specs.Rsqrt.{Rsqrt};
+
+// The square root of every bit pattern: the nearest float, or code 1 and nothing written.
+#[no_mangle]
+pub extern "C" fn ear_sqrt(x: f32, out: &mut f32) -> u32
+    ensures { λ code. ⌜ Sqrt x code (now (out .entry)) (now (out .exit)) ⌝ }
+{
+    roots::sqrt(x, out)
+}
+
+// 1 over the square root of every bit pattern: the nearest float, or code 1 and nothing written.
+#[no_mangle]
+pub extern "C" fn ear_rsqrt(x: f32, out: &mut f32) -> u32
+    ensures { λ code. ⌜ Rsqrt x code (now (out .entry)) (now (out .exit)) ⌝ }
+{
+    roots::rsqrt(x, out)
+}
