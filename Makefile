@@ -40,8 +40,9 @@ times: tools-for-make
 clean:
 	rm -rf build target
 
+# `error` says it in one line, where a recipe that fails would add one of make's own.
 tools-for-make:
-	@tools/need x86-64 rt $(CC) ar objdump
+	@$(eval missing := $(shell tools/need x86-64 rt $(CC) ar objdump 2>&1))$(if $(missing),$(error $(missing)))
 
 $(LIBRARY): $(CRATES) | tools-for-make
 	rt staticlib earmath
