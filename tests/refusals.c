@@ -18,7 +18,7 @@ static const uint32_t not_finite[] = {
     0x7fffffff, 0xffffffff, /* quiet, greatest payload */
     0x7fc12345, 0xffa5a5a5, /* some other payloads */
 };
-static const uint32_t finite[] = {
+static const uint32_t edge_cases[] = {
     0x80000000, 0x00000000, 0x80000001, 0x00000001, 0x807fffff, 0x007fffff, /* zeros, subnormals */
     0x80800000, 0x00800000, 0xb3800000, 0x33800000, 0xbf7fffff, 0x3f7fffff, /* up to 1 */
     0xbf800000, 0x3f800000, 0xbf800001, 0x3f800001, 0xc0a00000, 0x40a00000, /* from 1 on */
@@ -51,32 +51,36 @@ static bool refused_at(const struct function *f, uint32_t x)
     return true;
 }
 
-/* The accepted ones among the finite edges are no business of this program. */
-static bool refused_or_accepted_at(const struct function *f, uint32_t x, int *refused)
+/* The first float outside the range, going down or up from one of its ends.
+ * From +0 it takes two steps down, since -0 is equal to it. */
+static uint32_t outside(const struct function *f, float end, int step)
 {
-    if (accepts(f, float_of(x)))
-        return true;
-    *refused += 1;
-    return refused_at(f, x);
+    uint32_t place = place_of(bits_of(end));
+    while (accepts(f, float_of(pattern_at(place))))
+        place += (uint32_t)step;
+    return pattern_at(place);
 }
 
 static void refusals_of(const struct function *f)
 {
     bool good = true;
-    int refused = 0;
     for (size_t i = 0; i < COUNT(not_finite); i++)
         good &= refused_at(f, not_finite[i]);
     group(good, "%s: refuses %zu NaNs and infinities, and touches nothing", f->name, COUNT(not_finite));
 
     good = true;
-    for (size_t i = 0; i < COUNT(finite); i++)
-        good &= refused_or_accepted_at(f, finite[i], &refused);
+    int refused = 0;
+    for (size_t i = 0; i < COUNT(edge_cases); i++)
+        if (!accepts(f, float_of(edge_cases[i]))) {
+            good &= refused_at(f, edge_cases[i]);
+            refused++;
+        }
     group(good, "%s: refuses %d finite edge cases outside its range, and touches nothing", f->name, refused);
 
-    refused = 0;
-    good = refused_or_accepted_at(f, pattern_at(place_of(bits_of(f->low)) - 1), &refused);
-    good &= refused_or_accepted_at(f, pattern_at(place_of(bits_of(f->high)) + 1), &refused);
-    group(good, "%s: refuses the floats next to the ends of its range, and touches nothing", f->name);
+    uint32_t below = outside(f, f->low, -1), above = outside(f, f->high, 1);
+    good = refused_at(f, below) && refused_at(f, above);
+    group(good, "%s: refuses the floats next to its range, %08" PRIx32 " and %08" PRIx32 ", and touches nothing",
+          f->name, below, above);
 }
 
 /* By name, since a wrong range in the table would pass unseen above. */
