@@ -110,6 +110,7 @@ static void say(const struct share *s)
     group_faults(s->f, t);
     printf("      %s: worst error %.6f ulp at %08" PRIx32 ", relative 2^%.3f at %08" PRIx32 "\n", name, s->ulps.error,
            s->ulps.at, log2(s->relative.error), s->relative.at);
+    fflush(stdout); /* in a log, before the next function's progress */
 }
 
 static void every(const struct function *f, long threads)
