@@ -1,0 +1,160 @@
+/*
+ * Nanoseconds for a call, in two loops. Latency: each call's input waits for the
+ * result before. Throughput: calls over an array, none of which waits. All
+ * contestants take turns in every round, and the best round counts, so that a
+ * busy machine harms all alike. The figures include the loop and the call.
+ */
+#include <float.h>
+#include <math.h>
+#include <stdint.h>
+#include <stdio.h>
+#include <time.h>
+
+#include "earmath.h"
+
+float newlib_sqrtf(float x);
+
+/* Where inputs come from: evenly over the bit patterns from one float to
+ * another, and so over the exponents between them, or evenly over the values. */
+enum evenly { OVER_PATTERNS, OVER_VALUES };
+
+#define EVERY_NORMAL {"normal x > 0", OVER_PATTERNS, FLT_MIN, FLT_MAX}
+#define ONE_TO_FOUR {"x from 1 to 4", OVER_VALUES, 1, 4}
+
+/* The contests, a line for each function: its name, our call from x to *out,
+ * what newlib's and glibc's code give, and two kinds of inputs. */
+#define CONTESTS(LINE) \
+    LINE(square_root, ear_sqrt(x, out), newlib_sqrtf(x), sqrtf(x), EVERY_NORMAL, ONE_TO_FOUR) \
+    LINE(reciprocal_root, ear_rsqrt(x, out), 1.0f / newlib_sqrtf(x), 1.0f / sqrtf(x), EVERY_NORMAL, ONE_TO_FOUR)
+
+enum { INPUTS = 8192, ROUNDS = 200, OURS = 0, NEWLIB, GLIBC, CONTESTANTS };
+
+static float input[INPUTS], output[INPUTS];
+static volatile uint32_t zero; /* 0, but the compiler cannot tell */
+
+/* A float and its bits. Not by memcpy, which would be a call here: the build
+ * forbids the compiler to know the library's functions. */
+union word {
+    float value;
+    uint32_t bits;
+};
+
+/* x, known only once r is: r's bits, masked to nothing, are mixed in. */
+static inline float after(float r, float x, uint32_t nothing)
+{
+    union word before = {.value = r}, word = {.value = x};
+    word.bits ^= before.bits & nothing;
+    return word.value;
+}
+
+/* The two loops around a statement that takes x to *out. A macro and not a
+ * function pointer, so that every contestant is called directly. */
+#define LOOPS(name, statement) \
+    static void name##_latency(void) \
+    { \
+        uint32_t nothing = zero; \
+        float r = 0; \
+        for (int i = 0; i < INPUTS; i++) { \
+            float x = after(r, input[i], nothing), *out = &r; \
+            statement; \
+        } \
+        output[0] = r; \
+    } \
+    static void name##_throughput(void) \
+    { \
+        for (int i = 0; i < INPUTS; i++) { \
+            float x = input[i], *out = &output[i]; \
+            statement; \
+        } \
+    }
+
+#define LOOPS_OF(name, ours, newlib, glibc, wide, narrow) \
+    LOOPS(name##_ours, ours) \
+    LOOPS(name##_newlib, *out = newlib) \
+    LOOPS(name##_glibc, *out = glibc)
+
+CONTESTS(LOOPS_OF)
+
+struct inputs {
+    const char *words;
+    enum evenly evenly;
+    float from, to;
+};
+
+typedef void (*loop)(void);
+
+struct contest {
+    const char *name;
+    loop loops[CONTESTANTS][2]; /* latency, throughput */
+    struct inputs inputs[2];
+};
+
+#define BOTH(name) {name##_latency, name##_throughput}
+#define LINE_OF(name, ours, newlib, glibc, wide, narrow) \
+    {#name, {BOTH(name##_ours), BOTH(name##_newlib), BOTH(name##_glibc)}, {wide, narrow}},
+
+static const struct contest contests[] = {CONTESTS(LINE_OF)};
+
+enum { COUNT = sizeof contests / sizeof contests[0] };
+
+static double now(void)
+{
+    struct timespec t;
+    clock_gettime(CLOCK_MONOTONIC, &t);
+    return (double)t.tv_sec * 1e9 + (double)t.tv_nsec;
+}
+
+/* The same inputs in every round and for every contestant. */
+static void fill(const struct inputs *inputs)
+{
+    uint64_t state = 1;
+    union word from = {.value = inputs->from}, to = {.value = inputs->to};
+    for (int i = 0; i < INPUTS; i++) {
+        state = state * 6364136223846793005u + 1442695040888963407u;
+        union word drawn = {.bits = from.bits + (uint32_t)((state >> 32) * (to.bits - from.bits) >> 32)};
+        if (inputs->evenly == OVER_VALUES)
+            drawn.value = from.value + (to.value - from.value) * (float)(state >> 40) * 0x1p-24f;
+        input[i] = drawn.value;
+    }
+}
+
+static void measure(const struct contest *c, double best[CONTESTANTS][2])
+{
+    for (int who = 0; who < CONTESTANTS; who++)
+        for (int kind = 0; kind < 2; kind++)
+            best[who][kind] = INFINITY;
+    for (int round = 0; round < ROUNDS; round++)
+        for (int who = 0; who < CONTESTANTS; who++)
+            for (int kind = 0; kind < 2; kind++) {
+                double start = now();
+                c->loops[who][kind]();
+                double each = (now() - start) / INPUTS;
+                best[who][kind] = each < best[who][kind] ? each : best[who][kind];
+            }
+}
+
+static void contest(const struct contest *c, const struct inputs *inputs)
+{
+    static const char *const kinds[] = {"latency", "throughput"};
+    double best[CONTESTANTS][2];
+    fill(inputs);
+    measure(c, best);
+    for (int kind = 0; kind < 2; kind++) {
+        double ours = best[OURS][kind], newlib = best[NEWLIB][kind], glibc = best[GLIBC][kind];
+        printf("%-16s %-19s %-11s %7.1f %7.1f %7.1f %12.2f %11.2f\n", c->name, inputs->words, kinds[kind], ours,
+               newlib, glibc, newlib / ours, glibc / ours);
+    }
+}
+
+int main(void)
+{
+    puts("Nanoseconds for a call, best of all rounds; a ratio above 1 means that ours is the faster.");
+    puts("glibc's sqrtf is called in the library, whose code is the processor's root instruction;");
+    puts("the reciprocal root's rivals are 1.0f / sqrtf(x), which is not always the nearest float.\n");
+    printf("%-16s %-19s %-11s %7s %7s %7s %12s %11s\n", "function", "inputs", "measure", "ours", "newlib", "glibc",
+           "newlib/ours", "glibc/ours");
+    for (int i = 0; i < COUNT; i++)
+        for (int kind = 0; kind < 2; kind++)
+            contest(&contests[i], &contests[i].inputs[kind]);
+    return 0;
+}

@@ -1,0 +1,142 @@
+/*
+ * Every one of the 2^32 patterns through every function of one argument.
+ * Patterns are taken in the order of their values, in blocks that the threads
+ * draw from a common counter, so that order is judged across the whole range.
+ */
+#include <inttypes.h>
+#include <pthread.h>
+#include <stdatomic.h>
+#include <stdio.h>
+#include <unistd.h>
+
+#include "functions.h"
+#include "report.h"
+
+enum { BLOCKS = 4096, BLOCK = 1 << 20, MOST_THREADS = 64 };
+
+struct worst {
+    double error;
+    uint32_t at;
+};
+
+struct share {
+    const struct function *f;
+    atomic_uint *next, *done;
+    struct tally tally;
+    struct worst ulps, relative;
+};
+
+/* Of equal errors the least pattern, so that two runs print the same one. */
+static void keep_worse(struct worst *w, double error, uint32_t at)
+{
+    if (!(error <= w->error) || (error == w->error && at < w->at))
+        *w = (struct worst){error, at};
+}
+
+/* The distance of neighbouring floats around a value; subnormals share one. */
+static double spacing_at(double value)
+{
+    int exponent;
+    frexp(value, &exponent);
+    return ldexp(1, (exponent < -125 ? -125 : exponent) - 24);
+}
+
+static void measure(struct share *s, struct deed d)
+{
+    float x = float_of(d.x);
+    double exact = accepts(s->f, x) ? s->f->exact(x) : 0;
+    if (exact == 0)
+        return;
+    double error = fabs(d.result - exact), relative = error / fabs(exact);
+    keep_worse(&s->relative, relative, d.x);
+    /* for normal results an error in ulp is below 2^24 times the relative one:
+     * a test that spares most of the calls of frexp and ldexp */
+    if (relative * 0x1p24 < s->ulps.error && fabs(exact) >= 0x1p-126)
+        return;
+    keep_worse(&s->ulps, error / spacing_at(exact), d.x);
+}
+
+static void sweep_block(struct share *s, uint32_t block)
+{
+    uint32_t from = block * BLOCK;
+    struct deed before = deed_at(s->f, pattern_at(from == 0 ? 0 : from - 1));
+    for (uint32_t i = 0; i < BLOCK; i++) {
+        struct deed here = deed_at(s->f, pattern_at(from + i));
+        judge(&s->tally, s->f, here);
+        judge_order(&s->tally, s->f, before, here);
+        measure(s, here);
+        before = here;
+    }
+}
+
+/* One line that is written over on a terminal, and ten lines in a log. */
+static void progress(const char *name, unsigned done)
+{
+    bool terminal = isatty(STDERR_FILENO);
+    if (done % (terminal ? BLOCKS / 64 : BLOCKS / 8) == 0)
+        fprintf(stderr, "%s%s: %u %% of all patterns done%s", terminal ? "\r" : "", name, done * 100 / BLOCKS,
+                terminal && done < BLOCKS ? "" : "\n");
+}
+
+static void *sweep(void *argument)
+{
+    struct share *s = argument;
+    for (unsigned block; (block = atomic_fetch_add(s->next, 1)) < BLOCKS;) {
+        sweep_block(s, block);
+        progress(s->f->name, atomic_fetch_add(s->done, 1) + 1);
+    }
+    return NULL;
+}
+
+static void add(struct share *sum, const struct share *s)
+{
+    sum->tally.accepted += s->tally.accepted;
+    sum->tally.refused += s->tally.refused;
+    for (int fault = 0; fault < FAULTS; fault++) {
+        if (sum->tally.seen[fault] == 0)
+            sum->tally.first[fault] = s->tally.first[fault];
+        sum->tally.seen[fault] += s->tally.seen[fault];
+    }
+    keep_worse(&sum->ulps, s->ulps.error, s->ulps.at);
+    keep_worse(&sum->relative, s->relative.error, s->relative.at);
+}
+
+static void say(const struct share *s)
+{
+    const char *name = s->f->name;
+    const struct tally *t = &s->tally;
+    group(t->accepted + t->refused == UINT64_C(1) << 32,
+          "%s: all 2^32 patterns, %" PRIu64 " accepted, %" PRIu64 " refused", name, t->accepted, t->refused);
+    group_faults(s->f, t);
+    printf("      %s: worst error %.6f ulp at %08" PRIx32 ", relative 2^%.3f at %08" PRIx32 "\n", name, s->ulps.error,
+           s->ulps.at, log2(s->relative.error), s->relative.at);
+    fflush(stdout); /* in a log, before the next function's progress */
+}
+
+static void every(const struct function *f, long threads)
+{
+    atomic_uint next = 0, done = 0;
+    struct share own = {.f = f, .next = &next, .done = &done}, shares[MOST_THREADS];
+    pthread_t ids[MOST_THREADS];
+    long helpers = 0;
+    for (; helpers < threads - 1; helpers++) {
+        shares[helpers] = own;
+        if (pthread_create(&ids[helpers], NULL, sweep, &shares[helpers]) != 0)
+            break;
+    }
+    sweep(&own);
+    for (long i = 0; i < helpers; i++) {
+        pthread_join(ids[i], NULL);
+        add(&own, &shares[i]);
+    }
+    say(&own);
+}
+
+int main(void)
+{
+    long threads = sysconf(_SC_NPROCESSORS_ONLN);
+    threads = threads < 1 ? 1 : threads > MOST_THREADS ? MOST_THREADS : threads;
+    for (int i = 0; i < FUNCTIONS; i++)
+        every(&functions[i], threads);
+    return verdict();
+}

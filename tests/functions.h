@@ -1,0 +1,31 @@
+/*
+ * The functions of one argument: a line for each. A new one is tested by
+ * `spread`, `refusals` and `every` as soon as it stands here.
+ */
+#ifndef FUNCTIONS_H
+#define FUNCTIONS_H
+
+#include <float.h>
+#include <math.h>
+#include <stddef.h>
+
+#include "earmath.h"
+#include "judge.h"
+
+static const struct function functions[] = {
+    /* name, call, accepted from, to, exact value, check, bound, order, twin */
+    {"ear_sqrt", ear_sqrt, 0.0f, FLT_MAX, sqrt, nearest_root, 0, RISES, sqrtf},
+    {"ear_rsqrt", ear_rsqrt, 0x1p-149f, FLT_MAX, reciprocal_root, nearest_reciprocal_root, 0, FALLS, NULL},
+};
+
+enum { FUNCTIONS = sizeof functions / sizeof functions[0] };
+
+static inline const struct function *line_of(single call)
+{
+    const struct function *f = functions;
+    while (f->call != call)
+        f++;
+    return f;
+}
+
+#endif

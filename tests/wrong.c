@@ -1,0 +1,121 @@
+/*
+ * Wrong programs, which the checks must reject: document 01's section 9, and
+ * some that break one clause each. A check that lets one of them pass fails.
+ */
+#include <inttypes.h>
+
+#include "functions.h"
+#include "report.h"
+#include "section8.h"
+#include "survey.h"
+
+/* Section 9, 1: the greatest float not above the root. The square of a float
+ * is exact in double precision. */
+static uint32_t cuts_off(float x, float *out)
+{
+    if (!(x >= 0 && x <= FLT_MAX))
+        return EAR_OUT_OF_RANGE;
+    float root = sqrtf(x);
+    *out = (double)root * root > x ? nextafterf(root, 0) : root;
+    return EAR_OK;
+}
+
+static uint32_t accepts_negatives(float x, float *out)
+{
+    return ear_sqrt(fabsf(x), out);
+}
+
+static uint32_t writes_before_it_refuses(float x, float *out)
+{
+    *out = 0;
+    return ear_sqrt(x, out);
+}
+
+static uint32_t loses_the_sign_of_zero(float x, float *out)
+{
+    return ear_sqrt(x == 0 ? 0.0f : x, out);
+}
+
+static uint32_t swaps_neighbours(float x, float *out)
+{
+    return ear_sqrt(float_of(bits_of(x) ^ 1), out);
+}
+
+static uint32_t one_unit_up(float x, float *out)
+{
+    uint32_t code = ear_rsqrt(x, out);
+    if (code == EAR_OK)
+        *out = nextafterf(*out, INFINITY);
+    return code;
+}
+
+/* Within document 01's 2^-22, but not the nearest: two roundings. */
+static uint32_t one_over_the_root(float x, float *out)
+{
+    if (!(x > 0 && x <= FLT_MAX))
+        return EAR_OUT_OF_RANGE;
+    *out = 1 / sqrtf(x);
+    return EAR_OK;
+}
+
+static const struct wrong {
+    const char *what;
+    single call, poses_as;
+    uint32_t shown_at;
+    enum fault fault;
+} wrongs[] = {
+    {"a root that cuts off instead of rounding", cuts_off, ear_sqrt, 0x40a00000, WRONG_VALUE},
+    {"a root that accepts -1", accepts_negatives, ear_sqrt, 0xbf800000, WRONG_CODE},
+    {"a root that writes before it refuses", writes_before_it_refuses, ear_sqrt, 0xbf800000, TOUCHED},
+    {"a root that loses the sign of -0", loses_the_sign_of_zero, ear_sqrt, 0x80000000, WRONG_VALUE},
+    {"a root that falls between neighbours", swaps_neighbours, ear_sqrt, 0x00000003, OUT_OF_ORDER},
+    {"a reciprocal root one unit too great", one_unit_up, ear_rsqrt, 0x40a00000, WRONG_VALUE},
+    {"a reciprocal root rounded twice", one_over_the_root, ear_rsqrt, 0x3f800003, WRONG_VALUE},
+};
+
+enum { WRONGS = sizeof wrongs / sizeof wrongs[0] };
+
+static void reject(const struct wrong *w)
+{
+    struct function posing = *line_of(w->poses_as);
+    posing.call = w->call;
+    struct deed here = deed_at(&posing, w->shown_at);
+    struct deed below = deed_at(&posing, pattern_at(place_of(w->shown_at) - 1));
+    struct tally one = {0}, many = survey(&posing);
+    judge(&one, &posing, here);
+    judge_order(&one, &posing, below, here);
+    group(one.seen[w->fault] > 0 && many.seen[w->fault] > 0,
+          "%s: rejected at %08" PRIx32 " and %" PRIu64 " times in the spread (%s)", w->what, w->shown_at,
+          many.seen[w->fault], fault_names[w->fault]);
+}
+
+/* So that the wrong program is the one that the document means. */
+static void cuts_as_document_01_says(void)
+{
+    int same = 0;
+    for (int i = 0; i < ROOT_ROWS; i++) {
+        float result;
+        same += cuts_off(float_of(root_rows[i].x), &result) == EAR_OK && bits_of(result) == root_rows[i].cut;
+    }
+    group(same == ROOT_ROWS, "the root that cuts off gives document 01's third column, %d of %d", same, ROOT_ROWS);
+}
+
+/* A judge that rejects everything would pass all of the above. */
+static void bounds_are_not_too_tight(void)
+{
+    struct function posing = *line_of(ear_rsqrt);
+    posing.call = one_over_the_root;
+    posing.right = within_relative;
+    posing.bound = 0x1p-22;
+    struct tally t = survey(&posing);
+    group(faults_in(&t) == 0, "the reciprocal root rounded twice keeps the weaker bound 2^-22");
+}
+
+int main(void)
+{
+    cuts_as_document_01_says();
+    for (int i = 0; i < WRONGS; i++)
+        reject(&wrongs[i]);
+    bounds_are_not_too_tight();
+    return verdict();
+}
