@@ -48,19 +48,20 @@ def piece(g, basis, units):
 
 
 def show(name, f, octaves, basis, units):
-    print(f"const {name}: [u32; 80] = [")
-    for odd in octaves:
-        for j in range(8):
-            row = piece(lambda x, m=(8 + j) * WIDTH: f(odd, m + x), basis, units)
-            print("    " + ", ".join(f"0x{v:08x}" for v in row) + ",")
-    print("];")
+    """The rows as the arms of a match, which compiles to a table in read-only memory."""
+    print(f"fn {name}(i: u32) -> Coefficients {{\n    match i {{")
+    for i in range(16):
+        row = piece(lambda x, m=(8 + i % 8) * WIDTH: f(octaves[i // 8], m + x), basis, units)
+        arm = i if i < 15 else "_"
+        print(f"        {arm} => of(" + ", ".join(f"0x{v:08x}" for v in row) + "),")
+    print("    }\n}")
 
 
 # The root of m * 2 ^ (23 + odd), in d = m % WIDTH: 1, d, d (W - d), d (W - d)^2, d (W - d)^3.
-show("ROOT", lambda odd, m: math.sqrt(m * 2.0 ** (23 + odd)), (1, 0),
+show("root_row", lambda odd, m: math.sqrt(m * 2.0 ** (23 + odd)), (1, 0),
      [lambda d: 1.0, lambda d: d] + [lambda d, i=i: d * (WIDTH - d) ** i for i in (1, 2, 3)],
      [2.0 ** -8, 2.0 ** -32, 2.0 ** -52, 2.0 ** -79, 2.0 ** -88])
 # The root of 2 ^ (70 + odd) / m, in powers of v = WIDTH - 1 - m % WIDTH.
-show("RECIPROCAL", lambda odd, m: 2.0 ** 35 * math.sqrt(2.0 ** odd / m), (0, 1),
+show("reciprocal_row", lambda odd, m: 2.0 ** 35 * math.sqrt(2.0 ** odd / m), (0, 1),
      [lambda d, i=i: float(WIDTH - 1 - d) ** i for i in range(5)],
      [2.0 ** -7, 2.0 ** -32, 2.0 ** -50, 2.0 ** -78, 2.0 ** -88])

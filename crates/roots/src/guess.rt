@@ -1,175 +1,63 @@
-// First guesses at a root and a reciprocal root: a row of a table by the first digits of m and the parity of e, and a polynomial of
-// degree 4 in the other digits. Nothing is promised of a guess but its size; the tables come from tools/root_tables.py.
+// First guesses at a root and a reciprocal root: a row of coefficients by the first digits of m and the parity of e, and a polynomial of
+// degree 4 in the other digits. Nothing is promised of a guess but its size; the rows come from tools/root_tables.py.
 
 ghost use Prim.Native.Nat.{_*_, _≤_, _<_, _^_};
 
-// For each sixteenth of two octaves: the coefficients of 1, d, d w, d w^2 and d w^3, where w is 2 ^ 20 - d.
-const ROOT: [u32; 80] = [
-    0xb504f3c3,
-    0xafb0cadc,
-    0x050630a3,
-    0x241553cb,
-    0x00005bb7,
-    0xc0000089,
-    0xa62c1c48,
-    0x04438b36,
-    0x1b8b5e23,
-    0x00003e1d,
-    0xca62c25d,
-    0x9e0d2bd7,
-    0x03ad8051,
-    0x159624d2,
-    0x00002bbe,
-    0xd4439524,
-    0x970429b1,
-    0x0336f3c3,
-    0x11498cc7,
-    0x00001fce,
-    0xddb3d7c5,
-    0x90d82daf,
-    0x02d75b98,
-    0x0e18e902,
-    0x000017c0,
-    0xe6c15aa5,
-    0x8b5f6647,
-    0x0288f12f,
-    0x0bac9101,
-    0x00001224,
-    0xef77510d,
-    0x867a4fc8,
-    0x0247ac33,
-    0x09cbcfef,
-    0x00000e20,
-    0xf7def60b,
-    0x8210a738,
-    0x0210a856,
-    0x0850b83e,
-    0x00000b2f,
-    0x8000008b,
-    0x7c3b6519,
-    0x038d7941,
-    0x1983c823,
-    0x000040da,
-    0x87c3b6ed,
-    0x7580668d,
-    0x0303d68a,
-    0x137a0f8a,
-    0x00002bec,
-    0x8f1bbd61,
-    0x6fc25e5a,
-    0x0299bded,
-    0x0f439457,
-    0x00001eee,
-    0x9617e34d,
-    0x6ac8dd03,
-    0x0245ea46,
-    0x0c395037,
-    0x0000167e,
-    0x9cc47122,
-    0x666ba548,
-    0x020251d2,
-    0x09f7e433,
-    0x000010cb,
-    0xa32b2b7a,
-    0x628d2536,
-    0x01cadf14,
-    0x08413abe,
-    0x00000cd4,
-    0xa953fdd0,
-    0x5f171413,
-    0x019cb80a,
-    0x06ed49b1,
-    0x000009fd,
-    0xaf456f12,
-    0x5bf84a0d,
-    0x0175d13c,
-    0x05e13f00,
-    0x000007e8,
-];
+struct Coefficients {
+    a: u32,
+    b: u32,
+    c: u32,
+    d: u32,
+    e: u32,
+}
+
+fn of(a: u32, b: u32, c: u32, d: u32, e: u32) -> Coefficients {
+    Coefficients { a, b, c, d, e }
+}
+
+// For each eighth of two octaves: the coefficients of 1, d, d w, d w^2 and d w^3, where w is 2 ^ 20 - d.
+fn root_row(i: u32) -> Coefficients {
+    match i {
+        0 => of(0xb504f3c3, 0xafb0cadc, 0x050630a3, 0x241553cb, 0x00005bb7),
+        1 => of(0xc0000089, 0xa62c1c48, 0x04438b36, 0x1b8b5e23, 0x00003e1d),
+        2 => of(0xca62c25d, 0x9e0d2bd7, 0x03ad8051, 0x159624d2, 0x00002bbe),
+        3 => of(0xd4439524, 0x970429b1, 0x0336f3c3, 0x11498cc7, 0x00001fce),
+        4 => of(0xddb3d7c5, 0x90d82daf, 0x02d75b98, 0x0e18e902, 0x000017c0),
+        5 => of(0xe6c15aa5, 0x8b5f6647, 0x0288f12f, 0x0bac9101, 0x00001224),
+        6 => of(0xef77510d, 0x867a4fc8, 0x0247ac33, 0x09cbcfef, 0x00000e20),
+        7 => of(0xf7def60b, 0x8210a738, 0x0210a856, 0x0850b83e, 0x00000b2f),
+        8 => of(0x8000008b, 0x7c3b6519, 0x038d7941, 0x1983c823, 0x000040da),
+        9 => of(0x87c3b6ed, 0x7580668d, 0x0303d68a, 0x137a0f8a, 0x00002bec),
+        10 => of(0x8f1bbd61, 0x6fc25e5a, 0x0299bded, 0x0f439457, 0x00001eee),
+        11 => of(0x9617e34d, 0x6ac8dd03, 0x0245ea46, 0x0c395037, 0x0000167e),
+        12 => of(0x9cc47122, 0x666ba548, 0x020251d2, 0x09f7e433, 0x000010cb),
+        13 => of(0xa32b2b7a, 0x628d2536, 0x01cadf14, 0x08413abe, 0x00000cd4),
+        14 => of(0xa953fdd0, 0x5f171413, 0x019cb80a, 0x06ed49b1, 0x000009fd),
+        _ => of(0xaf456f12, 0x5bf84a0d, 0x0175d13c, 0x05e13f00, 0x000007e8),
+    }
+}
 
 // The same for the reciprocal root: the coefficients of the powers of v = 2 ^ 20 - 1 - d.
-const RECIPROCAL: [u32; 80] = [
-    0x55555621,
-    0x97b39d0f,
-    0x0329e9ac,
-    0x48d98c10,
-    0x00025d07,
-    0x50f44e2d,
-    0x81869852,
-    0x026e2dff,
-    0x32ae6a7a,
-    0x00016e84,
-    0x4d2fd980,
-    0x70456e0b,
-    0x01ea2cb1,
-    0x24757f33,
-    0x0000e97e,
-    0x49e69d94,
-    0x6288b7bf,
-    0x018a4bed,
-    0x1af89082,
-    0x00009afe,
-    0x47006af4,
-    0x5762e919,
-    0x0142c24c,
-    0x146dea3c,
-    0x00006a78,
-    0x446b3c02,
-    0x4e315e2c,
-    0x010c2810,
-    0x0fca6cda,
-    0x00004b4a,
-    0x421952f2,
-    0x4681621e,
-    0x00e1a993,
-    0x0c6bd375,
-    0x00003693,
-    0x40000062,
-    0x3ffffb39,
-    0x00c007f4,
-    0x09ebe0ea,
-    0x0000286b,
-    0x78adf87e,
-    0xd689d9f2,
-    0x047963be,
-    0x670673a4,
-    0x000357a3,
-    0x727c97e4,
-    0xb72d55b7,
-    0x036fe51a,
-    0x47ac96f4,
-    0x00020655,
-    0x6d28a59c,
-    0x9ec68519,
-    0x02b53626,
-    0x338f906c,
-    0x00014a35,
-    0x6882f657,
-    0x8b59234e,
-    0x022d9ea1,
-    0x262480af,
-    0x0000db32,
-    0x6469560e,
-    0x7b953ebc,
-    0x01c8733c,
-    0x1ce435ea,
-    0x00009692,
-    0x60c24819,
-    0x6e94d54c,
-    0x017b3b02,
-    0x1654deab,
-    0x00006a79,
-    0x5d7a5d91,
-    0x63b5aec0,
-    0x013f2284,
-    0x1190f3ce,
-    0x00004d2e,
-    0x5a827a0b,
-    0x5a8272d7,
-    0x010f92ad,
-    0x0e07ed35,
-    0x00003929,
-];
+fn reciprocal_row(i: u32) -> Coefficients {
+    match i {
+        0 => of(0x55555621, 0x97b39d0f, 0x0329e9ac, 0x48d98c10, 0x00025d07),
+        1 => of(0x50f44e2d, 0x81869852, 0x026e2dff, 0x32ae6a7a, 0x00016e84),
+        2 => of(0x4d2fd980, 0x70456e0b, 0x01ea2cb1, 0x24757f33, 0x0000e97e),
+        3 => of(0x49e69d94, 0x6288b7bf, 0x018a4bed, 0x1af89082, 0x00009afe),
+        4 => of(0x47006af4, 0x5762e919, 0x0142c24c, 0x146dea3c, 0x00006a78),
+        5 => of(0x446b3c02, 0x4e315e2c, 0x010c2810, 0x0fca6cda, 0x00004b4a),
+        6 => of(0x421952f2, 0x4681621e, 0x00e1a993, 0x0c6bd375, 0x00003693),
+        7 => of(0x40000062, 0x3ffffb39, 0x00c007f4, 0x09ebe0ea, 0x0000286b),
+        8 => of(0x78adf87e, 0xd689d9f2, 0x047963be, 0x670673a4, 0x000357a3),
+        9 => of(0x727c97e4, 0xb72d55b7, 0x036fe51a, 0x47ac96f4, 0x00020655),
+        10 => of(0x6d28a59c, 0x9ec68519, 0x02b53626, 0x338f906c, 0x00014a35),
+        11 => of(0x6882f657, 0x8b59234e, 0x022d9ea1, 0x262480af, 0x0000db32),
+        12 => of(0x6469560e, 0x7b953ebc, 0x01c8733c, 0x1ce435ea, 0x00009692),
+        13 => of(0x60c24819, 0x6e94d54c, 0x017b3b02, 0x1654deab, 0x00006a79),
+        14 => of(0x5d7a5d91, 0x63b5aec0, 0x013f2284, 0x1190f3ce, 0x00004d2e),
+        _ => of(0x5a827a0b, 0x5a8272d7, 0x010f92ad, 0x0e07ed35, 0x00003929),
+    }
+}
 
 // A coefficient times a number of at most 30 digits.
 fn term(c: u32, x: u64) -> u64
@@ -187,25 +75,23 @@ fn times(a: u64, b: u64) -> u64
     a * b
 }
 
-// Where the row of m and e begins.
-fn row(m: u32, e: u32) -> usize
-    ensures { λ r. ⌜ r ≤ 75 ⌝ }
-{
-    ((e % 2 * 8 + m / 1048576) % 16 * 5) as usize
+// The row of m and e: the octave by the parity of e, the eighth by the digits of m after the first.
+fn row(m: u32, e: u32) -> u32 {
+    (e % 2 * 8 + m / 1048576) % 16
 }
 
 // A guess at the root of m * 2 ^ (23 + e % 2).
 pub fn root(m: u32, e: u32) -> u64
     ensures { λ r. ⌜ r < 2 ^ 26 ⌝ }
 {
-    let i = row(m, e);
+    let t = root_row(row(m, e));
     let d = (m % 1048576) as u64;
     let w = 1048576 - d;
     let y = times(d, w);
     let z = times(y, w);
     let q = times(y / 16384, times(w, w) / 1048576);
-    let low = term(ROOT[i + 3], z / 2199023255552) + term(ROOT[i + 4], q / 65536);
-    let high = term(ROOT[i], 1073741824) + term(ROOT[i + 1], d * 64) + term(ROOT[i + 2], y / 16384);
+    let low = term(t.d, z / 2199023255552) + term(t.e, q / 65536);
+    let high = term(t.a, 1073741824) + term(t.b, d * 64) + term(t.c, y / 16384);
     (high + low) / 274877906944
 }
 
@@ -213,14 +99,12 @@ pub fn root(m: u32, e: u32) -> u64
 pub fn reciprocal(m: u32, e: u32) -> u64
     ensures { λ r. ⌜ r < 2 ^ 26 ⌝ }
 {
-    let i = row(m, e);
+    let t = reciprocal_row(row(m, e));
     let v = 1048575 - (m % 1048576) as u64;
     let v2 = times(v, v);
     let v3 = times(v2, v);
     let v4 = times(v2 / 4096, v2 / 1048576);
-    let low = term(RECIPROCAL[i + 3], v3 / 2199023255552) + term(RECIPROCAL[i + 4], v4 / 524288);
-    let high = term(RECIPROCAL[i], 1073741824)
-        + term(RECIPROCAL[i + 1], v * 32)
-        + term(RECIPROCAL[i + 2], v2 / 8192);
+    let low = term(t.d, v3 / 2199023255552) + term(t.e, v4 / 524288);
+    let high = term(t.a, 1073741824) + term(t.b, v * 32) + term(t.c, v2 / 8192);
     (high + low) / 137438953472
 }
