@@ -41,7 +41,7 @@ pub fn sqrt(x: f32, out: &mut f32) -> u32
     ensures { λ code. ⌜ Sqrt x code (now (out .entry)) (now (out .exit)) ⌝ }
 {
     if 0.0 <= x {
-        if x < f32::from_bits(0x7f80_0000) {
+        if x <= f32::from_bits(0x7f7f_ffff) {
             if x == 0.0 {
                 *out = x;
                 return 0;
@@ -98,7 +98,7 @@ pub fn rsqrt(x: f32, out: &mut f32) -> u32
     ensures { λ code. ⌜ Rsqrt x code (now (out .entry)) (now (out .exit)) ⌝ }
 {
     if 0.0 <= x {
-        if x < f32::from_bits(0x7f80_0000) {
+        if x <= f32::from_bits(0x7f7f_ffff) {
             if x == 0.0 {
                 return 1;
             }

@@ -3,20 +3,21 @@
 use mathlib.Core.Path.{_≡_, refl, sym, ap, _∙_, subst}
 use mathlib.Core.Logic.{_⊎_, inl, inr}
 use Prim.Native.Nat.{ℕ, _+_, _*_, _^_, _≤_, _<_}
-use native.Mathlib.Nat.{zero-mul, mul-assoc, mul-comm, mul-right-comm, mul-pos}
+use native.Mathlib.Nat.{le-of-eq, lt-of-lt-of-le, not-le-of-lt, zero-mul, mul-assoc, mul-comm, mul-right-comm, mul-pos}
 use native.Mathlib.Omega.{arith}
 use mathlib.Core.Bool.{Bool, true, false, _&&_, _||_, Bool·beq, true≢false, cond}
 use lib.IntN.{ℤ}
 use lib.Dec.{T, ltb, eqb}
-use lib.Pow.{pow-pos}
+use lib.Pow.{pow-add, pow-pos}
 use borrow.Author.Tests.{ltb-true, ltb-false, lt-ltb, le-ltb, eqb-true, eqb-false, eq-eqb, ne-eqb}
 use lib.Ieee.{Float, nan, inf, fin, binary32, fits, ofBits, up, down, below, level, lt, eq, le}
 use lib.Ieee.Fits.{down-pos}
 use lib.Ieee.Scale.{finite}
 use Rattle.units.specs.Units.{mag, negative, Number, P, N, Le, Lt}
 use Rattle.units.proofs.Naturals.{le-or-lt, proportion-le, proportion-lt}
-use Rattle.units.proofs.Size.{mag-exact}
+use Rattle.units.proofs.Size.{mag-exact, mag-lt}
 use Rattle.units.proofs.Signs.{plus-of, minus-of, sides, size-sum}
+use Rattle.units.proofs.Gaps.{next-below}
 use Rattle.units.proofs.Bits.{Is, put-positive}
 
 -- ---- tests on numbers in one proportion agree
@@ -152,35 +153,41 @@ module _ (x y : Float) (h : Number x) (k : Number y) where
       go true q a b e = absurd (true≢false e)
       go false q a b e = elim (le-or-lt (P x + N y) (P y + N x)) [ inl l ↦ absurd (b e (omega (arith, a refl))) | inr l ↦ l ]
 
--- ---- tests that show a float to be finite
-pub finite-below-inf : (lo x : Float) → T (finite lo) → le lo x ≡ true → lt x (inf false) ≡ true → T (finite x)
+-- ---- a float between two finite ones is finite
+pub finite-between : (lo x hi : Float) → T (finite lo) → T (finite hi) → le lo x ≡ true → le x hi ≡ true → T (finite x)
 unfolding le lt eq
-finite-below-inf nan x f a b = absurd f
-finite-below-inf (inf s) x f a b = absurd f
-finite-below-inf (fin s m e) nan f a b = true≢false (sym a)
-finite-below-inf (fin s m e) (inf true) f a b = true≢false (sym a)
-finite-below-inf (fin s m e) (inf false) f a b = true≢false (sym b)
-finite-below-inf (fin s m e) (fin t n d) f a b = tt
+finite-between nan x hi f g a b = absurd f
+finite-between (inf s) x hi f g a b = absurd f
+finite-between (fin s m e) nan hi f g a b = true≢false (sym a)
+finite-between (fin s m e) (inf true) hi f g a b = true≢false (sym a)
+finite-between (fin s m e) (inf false) nan f g a b = absurd g
+finite-between (fin s m e) (inf false) (inf t) f g a b = absurd g
+finite-between (fin s m e) (inf false) (fin t n d) f g a b = true≢false (sym b)
+finite-between (fin s m e) (fin t n d) hi f g a b = tt
 
--- the tests with which a function of floats at least zero begins: 0 ≤ x, and x below the infinity
+-- ---- the tests with which a function of floats at least zero begins: 0 ≤ x, and x at most the greatest float
 zero-is : Is (ofBits binary32 0) false 0
 zero-is = put-positive 0 0 (inl refl) (omega arith) (omega arith)
 
-infinity-is : ofBits binary32 2139095040 ≡ inf false
-unfolding ofBits
-infinity-is = refl
+greatest-is : Is (ofBits binary32 2139095039) false (16777215 * 2 ^ 253)
+greatest-is = put-positive 16777215 253 (inr (omega arith)) (omega arith) (omega arith)
 
-finite-lt-infinity : (x : Float) → T (finite x) → lt x (inf false) ≡ true
-unfolding lt
-finite-lt-infinity nan h = absurd h
-finite-lt-infinity (inf s) h = absurd h
-finite-lt-infinity (fin s m e) h = refl
+-- no float is greater
+upto-greatest : (x : Float) → Number x → Le x (ofBits binary32 2139095039)
+upto-greatest x h =
+    let z = greatest-is in
+    let l : mag x ≤ 16777215 * 2 ^ 253 = next-below x h 16777215 253 (omega arith) (lt-of-lt-of-le (mag-lt x h) (le-of-eq (pow-add 2 24 253))) in
+    at-most (P x) (N x) (mag x) (P (ofBits binary32 2139095039)) (N (ofBits binary32 2139095039)) (16777215 * 2 ^ 253) (size-sum x) (plus-of (ofBits binary32 2139095039) (z .sign) ∙ z .units) (minus-of (ofBits binary32 2139095039) (z .sign)) l
+  where
+    at-most : (p n m p' n' g : ℕ) → p + n ≡ m → p' ≡ g → n' ≡ 0 → m ≤ g → p + n' ≤ p' + n
+    at-most p n m p' n' g a b c d = omega arith
 
 module _ (x : Float) where
-  pub at-least-zero : T (fits binary32 x) → le (ofBits binary32 0) x ≡ true → lt x (ofBits binary32 2139095040) ≡ true → Number x × (N x ≡ 0)
+  pub at-least-zero : T (fits binary32 x) → le (ofBits binary32 0) x ≡ true → le x (ofBits binary32 2139095039) ≡ true → Number x × (N x ≡ 0)
   at-least-zero f a b =
       let z = zero-is in
-      let h : Number x = record { fits32 = f; is-finite = finite-below-inf (ofBits binary32 0) x (z .number .is-finite) a (ap (lt x) (sym infinity-is) ∙ b) } in
+      let g = greatest-is in
+      let h : Number x = record { fits32 = f; is-finite = finite-between (ofBits binary32 0) x (ofBits binary32 2139095039) (z .number .is-finite) (g .number .is-finite) a b } in
       let l = le-true (ofBits binary32 0) x (z .number) h a in
       let p = plus-of (ofBits binary32 0) (z .sign) ∙ z .units in
       let n = minus-of (ofBits binary32 0) (z .sign) in
@@ -193,8 +200,8 @@ module _ (x : Float) where
       let p = plus-of (ofBits binary32 0) (z .sign) ∙ z .units in
       omega arith
 
-  pub not-finite : Number x → lt x (ofBits binary32 2139095040) ≡ false → ⊥
-  not-finite h a = true≢false (sym (finite-lt-infinity x (h .is-finite)) ∙ ap (lt x) (sym infinity-is) ∙ a)
+  pub not-finite : Number x → le x (ofBits binary32 2139095039) ≡ false → ⊥
+  not-finite h a = not-le-of-lt (le-false x (ofBits binary32 2139095039) h (greatest-is .number) a) (upto-greatest x h)
 
   -- the test with zero
   pub eq-zero : Number x → eq x (ofBits binary32 0) ≡ true → mag x ≡ 0
