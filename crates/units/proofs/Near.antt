@@ -5,3 +5,6 @@ use Prim.Native.Nat.{ℕ, _+_, _≤_}
 pub record Near (a b d : ℕ) : Type 0 where
   pub at-most : a ≤ b + d
   pub at-least : b ≤ a + d
+
+pub near-sym : {a b d : ℕ} → Near a b d → Near b a d
+near-sym h = record { at-most = h .at-least; at-least = h .at-most }

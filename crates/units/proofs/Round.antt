@@ -70,7 +70,8 @@ kept-ge n c h =
 -- ---- order
 same-drop : (n c m d k : ℕ) → 0 < c → 0 < d → n * d ≤ m * c → closest n (c * 2 ^ k) * 2 ^ k ≤ closest m (d * 2 ^ k) * 2 ^ k
 same-drop n c m d k C D h =
-    mul-le-mul-right (2 ^ k) (closest-mono n (c * 2 ^ k) m (d * 2 ^ k) (mul-pos C (pow-pos k)) (mul-pos D (pow-pos k)) (rw (mul-assoc n d (2 ^ k), mul-assoc m c (2 ^ k)) at (mul-le-mul-right (2 ^ k) h)))
+    mul-le-mul-right (2 ^ k)
+    (closest-mono n (c * 2 ^ k) m (d * 2 ^ k) (mul-pos C (pow-pos k)) (mul-pos D (pow-pos k)) (rw (mul-assoc n d (2 ^ k), mul-assoc m c (2 ^ k)) at (mul-le-mul-right (2 ^ k) h)))
 
 fewer : (x y : ℕ) → x ≤ y → x - 24 ≤ y - 24
 fewer x y h = omega arith

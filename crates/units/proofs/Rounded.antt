@@ -6,13 +6,13 @@ use native.Mathlib.Nat.{le-of-lt, le-trans, le-min, min-le-left, min-le-right, m
 use native.Mathlib.Omega.{arith}
 use mathlib.Core.Bool.{Bool, true, false, not, cond}
 use lib.Dec.{T, ltb, ltb→lt, nltb→le, lt→ltb}
-use lib.Ieee.{Float, nan, inf, fin, binary32, odd, units, round}
+use lib.Ieee.{Float, nan, inf, fin, binary32, odd, units, round, isNan}
 use lib.Ieee.Fits.{round-is, round-fits}
 use lib.Ieee.Exact.{HasValue, odd-sign}
 use lib.Ieee.Order.{drop, kept}
 use lib.Ieee.Scale.{finite}
 use Rattle.units.specs.Units.{mag, negative, P, N, Number}
-use Rattle.units.proofs.Size.{value-mag}
+use Rattle.units.proofs.Size.{value-mag, finite-real}
 use Rattle.units.proofs.Round.{rnd}
 
 -- a size held to that of an infinity
@@ -58,6 +58,18 @@ round-finite s a c = let n = a * 2 ^ 149 in rw round-is (units-finite s (kept 24
 -- and then it is a number of the format
 pub round-number : (s : Bool) (a c : ℕ) → rnd (a * 2 ^ 149) c < 2 ^ 277 → Number (round binary32 s a c)
 round-number s a c h = record { fits32 = round-fits binary32 s a c; is-finite = round-finite s a c .1 h }
+
+units-real : (s : Bool) (q k : ℕ) → T (not (isNan (units binary32 s q k)))
+unfolding units
+units-real s q k = go (ltb (q * 2 ^ k) (2 ^ 277))
+  where
+    go : (b : Bool) → T (not (isNan (cond b (odd 25 s q k 149) (inf s))))
+    go true = finite-real (odd 25 s q k 149) (value-finite (odd 25 s q k 149) s (q * 2 ^ k) (2 ^ 149) (odd-sign 25 s q k 149))
+    go false = unfold isNan in tt
+
+-- it is never a NaN
+pub round-real : (s : Bool) (a c : ℕ) → T (not (isNan (round binary32 s a c)))
+round-real s a c = let n = a * 2 ^ 149 in rw round-is (units-real s (kept 24 n c) (drop 24 n c))
 
 -- the two sides of it: the one of its sign has the size, the other is 0
 pub round-P : (s : Bool) (a c : ℕ) → P (round binary32 s a c) ≡ cond s 0 (cap (rnd (a * 2 ^ 149) c))

@@ -9,6 +9,7 @@ use lib.Pow.{pow-add, pow-pos, pow-lt}
 use lib.Ieee.{Float, nan, inf, fin, up, down, binary32, fits, isNan}
 use lib.Ieee.Fits.{down-pos, and-l, and-r}
 use lib.Ieee.Exact.{HasValue}
+use lib.Ieee.Scale.{finite}
 use Rattle.units.specs.Units.{mag, negative, Number}
 
 -- ---- what fitting says of a number that is not zero
@@ -96,3 +97,10 @@ unfolding mag isNan
 finite-of-mag nan f t h = absurd t
 finite-of-mag (inf s) f t h = absurd (lt-irrefl (2 ^ 277) h)
 finite-of-mag (fin s m e) f t h = record { fits32 = f; is-finite = tt }
+
+-- what is finite is no NaN
+pub finite-real : (x : Float) → T (finite x) → T (not (isNan x))
+unfolding isNan
+finite-real nan t = t
+finite-real (inf s) t = tt
+finite-real (fin s m e) t = tt
