@@ -8,6 +8,7 @@ use native.Mathlib.Omega.{arith}
 use mathlib.Core.Bool.{Bool, true, false, not, cond}
 use lib.Dec.{T, leb, leb→le, nleb→lt, lit<}
 use lib.Ieee.{Float, binary32, round, fits, isNan}
+use lib.Ieee.Scale.{finite}
 use lib.Ieee.Fits.{round-fits}
 use Rattle.units.specs.Units.{mag, negative, P, N, Number, Le}
 use Rattle.units.proofs.Near.{Near, near-sym}
@@ -23,20 +24,26 @@ pub record Rounds (z : Float) (a b c : ℕ) : Type 0 where
   pub minus : N z ≡ cap (rnd (b - a) c)
 
 -- ---- how an operation shows it
--- a rounded fraction r / c of the sign s, where r / c is the difference on that sign's side
-pub rounds-of : (s : Bool) (r d a b c : ℕ) → 0 < d → 0 < c → r * 2 ^ 149 * c ≡ cond s (b - a) (a - b) * d → cond s (a - b) (b - a) ≡ 0 → Rounds (round binary32 s r d) a b c
-rounds-of false r d a b c D C e z = record {
+-- a fraction r / d rounded, with the sign s, where r / d is v / c units, and a - b is v or, for the sign -, -v
+pub rounds-of : (s : Bool) (r d a b c v : ℕ) → 0 < d → 0 < c → r * 2 ^ 149 * c ≡ v * d → a + cond s v 0 ≡ cond s 0 v + b → Rounds (round binary32 s r d) a b c
+rounds-of false r d a b c v D C e w = record {
   fits32 = round-fits binary32 false r d;
   no-nan = round-real false r d;
-  plus = round-P false r d ∙ ap cap (rnd-same (r * 2 ^ 149) d (a - b) c D C e);
-  minus = round-N false r d ∙ ap cap (sym (ap (λ (x : ℕ). rnd x c) z ∙ rnd-zero c C));
+  plus = round-P false r d ∙ ap cap (rnd-same (r * 2 ^ 149) d v c D C e ∙ ap (λ (x : ℕ). rnd x c) (sym (rest a b v w .0)));
+  minus = round-N false r d ∙ ap cap (sym (ap (λ (x : ℕ). rnd x c) (rest a b v w .1) ∙ rnd-zero c C));
 }
-rounds-of true r d a b c D C e z = record {
+  where
+    rest : (x y z : ℕ) → x + 0 ≡ z + y → (x - y ≡ z) × (y - x ≡ 0)
+    rest x y z g = omega arith
+rounds-of true r d a b c v D C e w = record {
   fits32 = round-fits binary32 true r d;
   no-nan = round-real true r d;
-  plus = round-P true r d ∙ ap cap (sym (ap (λ (x : ℕ). rnd x c) z ∙ rnd-zero c C));
-  minus = round-N true r d ∙ ap cap (rnd-same (r * 2 ^ 149) d (b - a) c D C e);
+  plus = round-P true r d ∙ ap cap (sym (ap (λ (x : ℕ). rnd x c) (rest a b v w .1) ∙ rnd-zero c C));
+  minus = round-N true r d ∙ ap cap (rnd-same (r * 2 ^ 149) d v c D C e ∙ ap (λ (x : ℕ). rnd x c) (sym (rest a b v w .0)));
 }
+  where
+    rest : (x y z : ℕ) → x + z ≡ 0 + y → (y - x ≡ z) × (x - y ≡ 0)
+    rest x y z g = omega arith
 
 -- a finite float is its own number, rounded
 pub rounds-self : (w : Float) → Number w → Rounds w (P w) (N w) 1
@@ -70,11 +77,11 @@ sides-lt z n = side-lt (negative z) (mag z) (2 ^ 277) (mag-lt z n)
 
 module _ (z : Float) (a b c : ℕ) (r : Rounds z a b c) where
   -- a finite result is the rounding itself
-  pub rounds-plus : Number z → P z ≡ rnd (a - b) c
-  rounds-plus n = r .plus ∙ cap-under (rnd (a - b) c) (rw (r .plus) at (sides-lt z n .0))
+  pub rounds-plus : T (finite z) → P z ≡ rnd (a - b) c
+  rounds-plus t = r .plus ∙ cap-under (rnd (a - b) c) (rw (r .plus) at (sides-lt z (record { fits32 = r .fits32; is-finite = t }) .0))
 
-  pub rounds-minus : Number z → N z ≡ rnd (b - a) c
-  rounds-minus n = r .minus ∙ cap-under (rnd (b - a) c) (rw (r .minus) at (sides-lt z n .1))
+  pub rounds-minus : T (finite z) → N z ≡ rnd (b - a) c
+  rounds-minus t = r .minus ∙ cap-under (rnd (b - a) c) (rw (r .minus) at (sides-lt z (record { fits32 = r .fits32; is-finite = t }) .1))
 
   -- it is finite where the rounding is below 2 ^ 277
   pub rounds-number : rnd (a - b) c < 2 ^ 277 → rnd (b - a) c < 2 ^ 277 → Number z
@@ -112,11 +119,11 @@ error : (a b c d e : ℕ) → 0 < c → ((x : ℕ) → Near (rnd x c * c * 2 ^ 2
 error a b c d e C h g = elim (order a b) [ inl l ↦ one-sided a b c d e C h g l | inr l ↦ near-sym (one-sided b a c d e C h (near-sym g) l) ]
 
 -- The standard model. d is at least the exact number's size, times c: the result is at most d / 2 ^ 24 off, and half a unit.
-pub rounds-near : (z : Float) (a b c d : ℕ) → 0 < c → Rounds z a b c → Number z → Near a b d → Near ((P z * c + b) * 2 ^ 24) ((N z * c + a) * 2 ^ 24) (d + 2 ^ 23 * c)
+pub rounds-near : (z : Float) (a b c d : ℕ) → 0 < c → Rounds z a b c → T (finite z) → Near a b d → Near ((P z * c + b) * 2 ^ 24) ((N z * c + a) * 2 ^ 24) (d + 2 ^ 23 * c)
 rounds-near z a b c d C r n g = rw (rounds-plus z a b c r n, rounds-minus z a b c r n) (error a b c d (2 ^ 23 * c) C (λ x. rnd-near x c C) g)
 
 -- and without the half unit where the exact number is a whole number of units
-pub rounds-whole : (z : Float) (a b d : ℕ) → Rounds z a b 1 → Number z → Near a b d → Near ((P z + b) * 2 ^ 24) ((N z + a) * 2 ^ 24) d
+pub rounds-whole : (z : Float) (a b d : ℕ) → Rounds z a b 1 → T (finite z) → Near a b d → Near ((P z + b) * 2 ^ 24) ((N z + a) * 2 ^ 24) d
 rounds-whole z a b d r n g = plain (P z) (N z) (rw (rounds-plus z a b 1 r n, rounds-minus z a b 1 r n) (error a b 1 d 0 (lit< tt) whole g))
   where
     plain : (p q : ℕ) → Near ((p * 1 + b) * 2 ^ 24) ((q * 1 + a) * 2 ^ 24) (d + 0) → Near ((p + b) * 2 ^ 24) ((q + a) * 2 ^ 24) d
