@@ -1,7 +1,7 @@
 -- What the result of an f32 operation is: the exact number, (a - b) / c units, rounded. Each operation shows that it is (Sums, Products, Quotients).
 -- What follows from it is shown here, once for all of them and for both signs.
 use mathlib.Core.Path.{_≡_, sym, ap, ap₂, _∙_}
-use mathlib.Core.Logic.{_⊎_, inl, inr}
+use mathlib.Core.Logic.{_⊎_, _↔_, inl, inr}
 use Prim.Native.Nat.{ℕ, _+_, _-_, _*_, _^_, _≤_, _<_, zero-le}
 use native.Mathlib.Nat.{le-of-eq, le-antisymm, le-of-lt, lt-of-le-of-lt, zero-mul, mul-one, mul-comm, mul-sub, add-zero, add-le-add, zero-sub, sub-zero, sub-eq-zero-of-le, min-eq-left, min-le-left}
 use native.Mathlib.Omega.{arith}
@@ -14,7 +14,7 @@ use Rattle.units.specs.Units.{mag, negative, P, N, Number, Le}
 use Rattle.units.proofs.Near.{Near, near-sym}
 use Rattle.units.proofs.Size.{mag-digits, mag-lt, finite-of-mag, finite-real}
 use Rattle.units.proofs.Round.{rnd, rnd-exact, rnd-upto, rnd-mono, rnd-near, rnd-whole, rnd-same, rnd-zero}
-use Rattle.units.proofs.Rounded.{cap, cap-under, cap-mono, round-P, round-N, round-real}
+use Rattle.units.proofs.Rounded.{cap, cap-under, cap-mono, round-P, round-N, round-real, of-units, of-units-number, of-units-sides}
 
 -- z is (a - b) / c units rounded, an infinity where that is too large, and no NaN: at most one of the two differences is above 0
 pub record Rounds (z : Float) (a b c : ℕ) : Type 0 where
@@ -88,6 +88,15 @@ module _ (z : Float) (a b c : ℕ) (r : Rounds z a b c) where
   rounds-number g h =
       finite-of-mag z (r .fits32) (r .no-nan)
       (size-lt (negative z) (mag z) (2 ^ 277) (rw (r .plus) (lt-of-le-of-lt (min-le-left (rnd (a - b) c) (2 ^ 277)) g)) (rw (r .minus) (lt-of-le-of-lt (min-le-left (rnd (b - a) c) (2 ^ 277)) h)))
+
+  -- and only there
+  pub rounds-finite : T (finite z) ↔ ((rnd (a - b) c < 2 ^ 277) × (rnd (b - a) c < 2 ^ 277))
+  rounds-finite = (under, λ h. rounds-number (h .0) (h .1) .is-finite)
+    where
+      under : T (finite z) → (rnd (a - b) c < 2 ^ 277) × (rnd (b - a) c < 2 ^ 277)
+      under t =
+          let n : Number z = record { fits32 = r .fits32; is-finite = t } in
+          (rw (rounds-plus t) at (sides-lt z n .0), rw (rounds-minus t) at (sides-lt z n .1))
 
   -- so where the exact number is at most some number of 24 digits below 2 ^ 277, in size
   pub rounds-bounded : (q j : ℕ) → 0 < c → q ≤ 2 ^ 24 → q * 2 ^ j < 2 ^ 277 → Near a b (q * 2 ^ j * c) → Number z
@@ -170,6 +179,14 @@ module _ (z : Float) (a b c : ℕ) (C : 0 < c) (r : Rounds z a b c) where
   -- where the exact number is that of a finite float, the result is that number
   pub rounds-exact : (w : Float) → Number w → a + N w * c ≡ P w * c + b → (P z ≡ P w) × (N z ≡ N w)
   rounds-exact w n e = rounds-same z w a b c (P w) (N w) 1 C (lit< tt) r (rounds-self w n) (rw (mul-one a, mul-one b) e)
+
+  -- the same by digits: a - b is q * 2 ^ j * c or, for the sign -, its opposite
+  pub rounds-digits : (s : Bool) (q j : ℕ) → q ≤ 2 ^ 24 → q * 2 ^ j < 2 ^ 277 → a + cond s (q * 2 ^ j) 0 * c ≡ cond s 0 (q * 2 ^ j) * c + b
+      → (P z ≡ cond s 0 (q * 2 ^ j)) × (N z ≡ cond s (q * 2 ^ j) 0)
+  rounds-digits s q j h l e =
+      let w = of-units-sides s q j h l in
+      let g = rounds-exact (of-units s (q * 2 ^ j)) (of-units-number s q j h l) (rw (w .0, w .1) e) in
+      (g .0 ∙ w .0, g .1 ∙ w .1)
 
   -- and where it is at most that of a finite float, or at least that, so is the result
   pub rounds-upto : (w : Float) → Number w → a + N w * c ≤ P w * c + b → Le z w

@@ -6,6 +6,7 @@ use native.Mathlib.Nat.{le-of-lt, le-trans, le-min, min-le-left, min-le-right, m
 use native.Mathlib.Omega.{arith}
 use mathlib.Core.Bool.{Bool, true, false, not, cond}
 use lib.Dec.{T, ltb, ltb→lt, nltb→le, lt→ltb}
+use lib.Pow.{pow-pos}
 use lib.Ieee.{Float, nan, inf, fin, binary32, odd, units, round, isNan}
 use lib.Ieee.Fits.{round-is, round-fits}
 use lib.Ieee.Exact.{HasValue, odd-sign}
@@ -13,7 +14,7 @@ use lib.Ieee.Order.{drop, kept}
 use lib.Ieee.Scale.{finite}
 use Rattle.units.specs.Units.{mag, negative, P, N, Number}
 use Rattle.units.proofs.Size.{value-mag, finite-real}
-use Rattle.units.proofs.Round.{rnd}
+use Rattle.units.proofs.Round.{rnd, rnd-exact}
 
 -- a size held to that of an infinity
 abbrev pub cap : ℕ → ℕ
@@ -89,3 +90,20 @@ cap-under a h = held a (2 ^ 277) h
   where
     held : (x m : ℕ) → min x m < m → min x m ≡ x
     held x m l = omega arith
+
+-- ---- every number of 24 digits below 2 ^ 277 is a float
+-- the float of n units with the sign s
+abbrev pub of-units : Bool → ℕ → Float
+of-units s n = round binary32 s n (2 ^ 149)
+
+stays : (q j : ℕ) → q ≤ 2 ^ 24 → rnd (q * 2 ^ j * 2 ^ 149) (2 ^ 149) ≡ q * 2 ^ j
+stays q j h = rnd-exact (q * 2 ^ j * 2 ^ 149) (2 ^ 149) q j (pow-pos 149) h refl
+
+pub of-units-number : (s : Bool) (q j : ℕ) → q ≤ 2 ^ 24 → q * 2 ^ j < 2 ^ 277 → Number (of-units s (q * 2 ^ j))
+of-units-number s q j h l = round-number s (q * 2 ^ j) (2 ^ 149) (rw (stays q j h) l)
+
+pub of-units-sides : (s : Bool) (q j : ℕ) → q ≤ 2 ^ 24 → q * 2 ^ j < 2 ^ 277
+    → (P (of-units s (q * 2 ^ j)) ≡ cond s 0 (q * 2 ^ j)) × (N (of-units s (q * 2 ^ j)) ≡ cond s (q * 2 ^ j) 0)
+of-units-sides s q j h l =
+    let e : cap (rnd (q * 2 ^ j * 2 ^ 149) (2 ^ 149)) ≡ q * 2 ^ j = rw (stays q j h) (min-eq-left (le-of-lt l)) in
+    (round-P s (q * 2 ^ j) (2 ^ 149) ∙ ap (λ (x : ℕ). cond s 0 x) e, round-N s (q * 2 ^ j) (2 ^ 149) ∙ ap (λ (x : ℕ). cond s x 0) e)
