@@ -57,7 +57,7 @@ all-in-use : (z : ℕ) → 0 < z - 24 → 23 + (z - 24) < z
 all-in-use z h = omega arith
 
 -- where digits are dropped, the whole part has all the digits that can be kept
-reaches : (n c : ℕ) → 0 < drop 24 n c → 2 ^ 23 * 2 ^ drop 24 n c ≤ n / c
+pub reaches : (n c : ℕ) → 0 < drop 24 n c → 2 ^ 23 * 2 ^ drop 24 n c ≤ n / c
 reaches n c h = rw pow-add at (size-reaches (n / c) (23 + drop 24 n c) (all-in-use (size (n / c)) h))
 
 kept-ge : (n c : ℕ) → 0 < drop 24 n c → 2 ^ 23 ≤ kept 24 n c
@@ -77,7 +77,7 @@ fewer : (x y : ℕ) → x ≤ y → x - 24 ≤ y - 24
 fewer x y h = omega arith
 
 -- 2 ^ 24 of the smaller step are at most 2 ^ 23 of the larger
-step : (j k : ℕ) → j < k → 2 ^ 24 * 2 ^ j ≤ 2 ^ 23 * 2 ^ k
+pub step : (j k : ℕ) → j < k → 2 ^ 24 * 2 ^ j ≤ 2 ^ 23 * 2 ^ k
 step j k h = rw (pow-add 2 24 j, pow-add 2 23 k) at (pow-mono (further j k h))
   where
     further : (x y : ℕ) → x < y → 24 + x ≤ 23 + y
