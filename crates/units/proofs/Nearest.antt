@@ -5,7 +5,7 @@ use Prim.Native.Nat.{ℕ, suc, _+_, _-_, _*_, _/_, _%_, _^_, _≤_, _<_, zero-le
 use native.Mathlib.Nat.{le-trans, le-of-lt, sub-eq-zero-of-le, le-of-eq, le-antisymm, lt-of-lt-of-le, lt-of-le-of-lt, lt-of-not-le, not-le-of-lt, eq-or-lt-of-le, eq-zero-or-pos, mul-assoc, mul-pos, mul-le-mul-right, le-div-iff-mul-le, div-lt-iff-lt-mul, div-mul-le-self, lt-div-mul-add}
 use native.Mathlib.Omega.{arith}
 use mathlib.Core.Bool.{Bool, true, false, not, cond}
-use lib.Dec.{T, leb, leb→le, nleb→lt}
+use lib.Dec.{T}
 use lib.Pow.{pow-add, pow-pos, pow-mono}
 use lib.Ieee.{Float, binary32, size, nearest}
 use lib.Ieee.Digits.{size-lt, size-le, back}
@@ -14,17 +14,11 @@ use lib.Ieee.Nearest.{closest, nearest-ge}
 use lib.Ieee.Order.{drop}
 use lib.Ieee.Scale.{finite, grid, grid-scale, normal-of-fraction}
 use Rattle.units.specs.Units.{mag, negative, P, N, Number}
+use Rattle.units.proofs.Naturals.{le-or-lt}
 use Rattle.units.proofs.Near.{Near, near-sym}
 use Rattle.units.proofs.Size.{mag-digits}
 use Rattle.units.proofs.Result.{Rounds, rounds-plus, rounds-minus}
 use Rattle.units.proofs.Round.{rnd, rnd-half, rnd-same, rnd-zero, reaches, step}
-
-le-or-lt : (a b : ℕ) → (a ≤ b) ⊎ (b < a)
-le-or-lt a b = go (leb a b) (leb→le a b) (nleb→lt a b)
-  where
-    go : (t : Bool) → (T t → a ≤ b) → (T (not t) → b < a) → (a ≤ b) ⊎ (b < a)
-    go true h g = inl (h tt)
-    go false h g = inr (g tt)
 
 regroup : (a b c : ℕ) → a * (b * c) ≡ a * c * b
 regroup a b c = omega arith

@@ -1,19 +1,20 @@
 -- What the result of an f32 operation is: the exact number, (a - b) / c units, rounded. Each operation shows that it is (Sums, Products, Quotients).
 -- What follows from it is shown here, once for all of them and for both signs.
-use mathlib.Core.Path.{_≡_, sym, ap, ap₂, _∙_}
-use mathlib.Core.Logic.{_⊎_, _↔_, inl, inr}
+use mathlib.Core.Path.{_≡_, sym, ap, _∙_}
+use mathlib.Core.Logic.{_↔_, inl, inr}
 use Prim.Native.Nat.{ℕ, _+_, _-_, _*_, _^_, _≤_, _<_, zero-le}
-use native.Mathlib.Nat.{le-of-eq, le-antisymm, le-of-lt, lt-of-le-of-lt, zero-mul, mul-one, mul-comm, mul-sub, add-zero, add-le-add, zero-sub, sub-zero, sub-eq-zero-of-le, min-eq-left, min-le-left}
+use native.Mathlib.Nat.{le-of-eq, le-antisymm, le-of-lt, lt-of-le-of-lt, zero-mul, mul-one, add-zero, add-le-add, zero-sub, sub-zero, sub-eq-zero-of-le, min-eq-left, min-le-left}
 use native.Mathlib.Omega.{arith}
 use mathlib.Core.Bool.{Bool, true, false, not, cond}
-use lib.Dec.{T, leb, leb→le, nleb→lt, lit<}
+use lib.Dec.{T, lit<}
 use lib.Ieee.{Float, binary32, round, fits, isNan}
 use lib.Ieee.Scale.{finite}
 use lib.Ieee.Fits.{round-fits}
 use Rattle.units.specs.Units.{mag, negative, P, N, Number, Le}
+use Rattle.units.proofs.Naturals.{le-or-lt, sub-mul}
 use Rattle.units.proofs.Near.{Near, near-sym}
 use Rattle.units.proofs.Size.{mag-digits, mag-lt, finite-of-mag, finite-real}
-use Rattle.units.proofs.Round.{rnd, rnd-exact, rnd-upto, rnd-mono, rnd-near, rnd-whole, rnd-same, rnd-zero}
+use Rattle.units.proofs.Round.{rnd, rnd-stays, rnd-upto, rnd-mono, rnd-near, rnd-whole, rnd-same, rnd-zero}
 use Rattle.units.proofs.Rounded.{cap, cap-under, cap-mono, round-P, round-N, round-real, of-units, of-units-number, of-units-sides}
 
 -- z is (a - b) / c units rounded, an infinity where that is too large, and no NaN: at most one of the two differences is above 0
@@ -51,9 +52,7 @@ rounds-self w n =
     record { fits32 = n .fits32; no-nan = finite-real w (n .is-finite); plus = own (negative w) .0; minus = own (negative w) .1 }
   where
     stays : mag w ≡ cap (rnd (mag w) 1)
-    stays =
-        let d = mag-digits w n in
-        sym (ap cap (rnd-exact (mag w) 1 (d .0) (d .1) (lit< tt) (le-of-lt (d .2)) (d .3 ∙ sym (mul-one (d .0 * 2 ^ d .1))) ∙ sym (d .3)) ∙ min-eq-left (le-of-lt (mag-lt w n)))
+    stays = let d = mag-digits w n in sym (ap cap (rnd-stays (mag w) (d .0) (d .1) (le-of-lt (d .2)) (d .3)) ∙ min-eq-left (le-of-lt (mag-lt w n)))
 
     zeros : 0 ≡ cap (rnd 0 1)
     zeros = sym (ap cap (rnd-zero 1 (lit< tt)))
@@ -108,13 +107,6 @@ module _ (z : Float) (a b c : ℕ) (r : Rounds z a b c) where
       within x y e g = omega arith
 
 -- ---- how far off, for both signs
-order : (a b : ℕ) → (a ≤ b) ⊎ (b ≤ a)
-order a b = go (leb a b) (leb→le a b) (nleb→lt a b)
-  where
-    go : (t : Bool) → (T t → a ≤ b) → (T (not t) → b < a) → (a ≤ b) ⊎ (b ≤ a)
-    go true h g = inl (h tt)
-    go false h g = inr (le-of-lt (g tt))
-
 -- the side that is 0 is exact, and the other is off by what the rounding is off, e being what that adds to the relative bound
 one-sided : (a b c d e : ℕ) → 0 < c → ((x : ℕ) → Near (rnd x c * c * 2 ^ 24) (x * 2 ^ 24) (x + e)) → Near a b d → a ≤ b
     → Near ((rnd (a - b) c * c + b) * 2 ^ 24) ((rnd (b - a) c * c + a) * 2 ^ 24) (d + e)
@@ -125,7 +117,7 @@ one-sided a b c d e C h g l = far (rnd (a - b) c * c) (rnd (b - a) c * c) (rw (s
 
 error : (a b c d e : ℕ) → 0 < c → ((x : ℕ) → Near (rnd x c * c * 2 ^ 24) (x * 2 ^ 24) (x + e)) → Near a b d
     → Near ((rnd (a - b) c * c + b) * 2 ^ 24) ((rnd (b - a) c * c + a) * 2 ^ 24) (d + e)
-error a b c d e C h g = elim (order a b) [ inl l ↦ one-sided a b c d e C h g l | inr l ↦ near-sym (one-sided b a c d e C h (near-sym g) l) ]
+error a b c d e C h g = elim (le-or-lt a b) [ inl l ↦ one-sided a b c d e C h g l | inr l ↦ near-sym (one-sided b a c d e C h (near-sym g) (le-of-lt l)) ]
 
 -- The standard model. d is at least the exact number's size, times c: the result is at most d / 2 ^ 24 off, and half a unit.
 pub rounds-near : (z : Float) (a b c d : ℕ) → 0 < c → Rounds z a b c → T (finite z) → Near a b d → Near ((P z * c + b) * 2 ^ 24) ((N z * c + a) * 2 ^ 24) (d + 2 ^ 23 * c)
@@ -145,9 +137,6 @@ rounds-whole z a b d r n g = plain (P z) (N z) (rw (rounds-plus z a b 1 r n, rou
 scaled : (a b c a' b' c' : ℕ) → a * c' + b' * c ≤ a' * c + b * c' → (a - b) * c' ≤ (a' - b') * c
 scaled a b c a' b' c' h = less (a - b) (a' - b') (sub-mul a b c') (sub-mul a' b' c)
   where
-    sub-mul : (x y k : ℕ) → (x - y) * k ≡ x * k - y * k
-    sub-mul x y k = mul-comm (x - y) k ∙ mul-sub k x y ∙ ap₂ (λ (u v : ℕ). u - v) (mul-comm k x) (mul-comm k y)
-
     less : (x y : ℕ) → x * c' ≡ a * c' - b * c' → y * c ≡ a' * c - b' * c → x * c' ≤ y * c
     less x y u v = omega arith
 

@@ -141,9 +141,12 @@ rnd-upto n c q j C h l = rw (rnd-exact (q * 2 ^ j * c) c q j C h refl) at (rnd-m
 pub rnd-from : (n c q j : ℕ) → 0 < c → q ≤ 2 ^ 24 → q * 2 ^ j * c ≤ n → q * 2 ^ j ≤ rnd n c
 rnd-from n c q j C h l = rw (rnd-exact (q * 2 ^ j * c) c q j C h refl) at (rnd-mono (q * 2 ^ j * c) c n c C C (mul-le-mul-right c l))
 
--- up to 2 ^ 24 every whole number of units stays as it is
+-- a whole number of units with 24 digits stays as it is, so any up to 2 ^ 24 does
+pub rnd-stays : (n q j : ℕ) → q ≤ 2 ^ 24 → n ≡ q * 2 ^ j → rnd n 1 ≡ n
+rnd-stays n q j h e = rnd-exact n 1 q j (lit< tt) h (e ∙ sym (mul-one (q * 2 ^ j))) ∙ sym e
+
 pub rnd-small : (n : ℕ) → n ≤ 2 ^ 24 → rnd n 1 ≡ n
-rnd-small n h = rnd-exact n 1 n 0 (lit< tt) h (omega arith) ∙ mul-one n
+rnd-small n h = rnd-stays n n 0 h (sym (mul-one n))
 
 -- nothing rounds to nothing
 pub rnd-zero : (c : ℕ) → 0 < c → rnd 0 c ≡ 0

@@ -1,7 +1,7 @@
 -- Sums and differences of f32: the exact sum is a whole number of units, so the standard model has no underflow term.
 use mathlib.Core.Path.{_≡_, refl, sym, ap, ap₂, _∙_}
 use Prim.Native.Nat.{ℕ, _+_, _-_, _*_, _/_, _^_, _≤_, _<_}
-use native.Mathlib.Nat.{le-trans, le-of-eq, le-of-lt, mul-one, mul-comm, mul-assoc, mul-right-comm, mul-sub, mul-pos, mul-le-mul-right, le-of-mul-le-mul-right}
+use native.Mathlib.Nat.{le-trans, le-of-eq, le-of-lt, mul-one, mul-comm, mul-assoc, mul-right-comm, mul-pos, mul-le-mul-right, le-of-mul-le-mul-right}
 use native.Mathlib.Omega.{arith}
 use mathlib.Core.Bool.{Bool, true, false, not, Bool·beq, cond}
 use lib.Dec.{T, ltb, ltb→lt, nltb→le, lit<}
@@ -9,6 +9,7 @@ use lib.Ieee.{Float, nan, inf, fin, up, down, binary32, round, sum, add, sub, ne
 use lib.Ieee.Fits.{down-pos, neg-fits}
 use lib.Ieee.Scale.{finite}
 use Rattle.units.specs.Units.{mag, negative, P, N, Number, Le}
+use Rattle.units.proofs.Naturals.{sub-mul}
 use Rattle.units.proofs.Near.{Near}
 use Rattle.units.proofs.Size.{mag-exact}
 use Rattle.units.proofs.Result.{Rounds, rounds-of, rounds-whole, rounds-mono}
@@ -19,9 +20,6 @@ sum-scale a b c x y u p q = omega arith
 
 diff-scale : (a b c x y u : ℕ) → a * u ≡ x * c → b * u ≡ y * c → (a - b) * u * 1 ≡ (x - y) * c
 diff-scale a b c x y u p q = mul-one ((a - b) * u) ∙ sub-mul a b u ∙ ap₂ (λ (v w : ℕ). v - w) p q ∙ sym (sub-mul x y c)
-  where
-    sub-mul : (v w k : ℕ) → (v - w) * k ≡ v * k - w * k
-    sub-mul v w k = mul-comm (v - w) k ∙ mul-sub k v w ∙ ap₂ (λ (f g : ℕ). f - g) (mul-comm k v) (mul-comm k w)
 
 order-scale : (a b c x y u : ℕ) → 0 < c → a * u ≡ x * c → b * u ≡ y * c → a ≤ b → x ≤ y
 order-scale a b c x y u C p q h = le-of-mul-le-mul-right (le-trans (le-of-eq (sym p)) (le-trans (mul-le-mul-right u h) (le-of-eq q))) C
