@@ -53,7 +53,8 @@ mul-operands (fin s m e) nan t = absurd t
 mul-operands (fin s m e) (inf u) t = absurd (neither (eqb m 0) (unlike s u) t)
 mul-operands (fin s m e) (fin u n d) t = (tt, tt)
 
--- ---- the standard model: the result is at most one part in 2 ^ 24 of the exact product off, and half a unit
+-- ---- the standard model
+-- a finite product is at most one part in 2 ^ 24 of the exact one off, and half a unit, which is 2 ^ 148 of the exact product's units
 pub mul-near : (x y : Float) → Number x → Number y → T (finite (mul binary32 x y))
     → Near ((P (mul binary32 x y) * 2 ^ 149 + (P x * N y + N x * P y)) * 2 ^ 24) ((N (mul binary32 x y) * 2 ^ 149 + (P x * P y + N x * N y)) * 2 ^ 24) (mag x * mag y + 2 ^ 172)
 mul-near x y h k t =
@@ -65,8 +66,9 @@ mul-near x y h k t =
     whole true false a b = omega arith
     whole true true a b = omega arith
 
--- ---- order, infinite results included: times a number that is not negative a product never falls, and times one that is not positive it never grows
+-- ---- order, infinite results included
 module _ (x x' y : Float) (h : Number x) (h' : Number x') (k : Number y) where
+  -- times a number that is not negative a product never falls
   pub mul-mono : N y ≡ 0 → Le x x' → Le (mul binary32 x y) (mul binary32 x' y)
   mul-mono z l =
       rounds-mono (mul binary32 x y) (mul binary32 x' y) (P x * P y + N x * N y) (P x * N y + N x * P y) (2 ^ 149) (P x' * P y + N x' * N y) (P x' * N y + N x' * P y) (2 ^ 149)
@@ -75,6 +77,7 @@ module _ (x x' y : Float) (h : Number x) (h' : Number x') (k : Number y) where
       grown : (a b a' b' p n u : ℕ) → n ≡ 0 → a + b' ≤ a' + b → (a * p + b * n) * u + (a' * n + b' * p) * u ≤ (a' * p + b' * n) * u + (a * n + b * p) * u
       grown a b a' b' p n u e g = rw e (let f : (a + b') * (p * u) ≤ (a' + b) * (p * u) = mul-le-mul-right (p * u) g in omega arith)
 
+  -- and times one that is not positive it never grows
   pub mul-anti : P y ≡ 0 → Le x x' → Le (mul binary32 x' y) (mul binary32 x y)
   mul-anti z l =
       rounds-mono (mul binary32 x' y) (mul binary32 x y) (P x' * P y + N x' * N y) (P x' * N y + N x' * P y) (2 ^ 149) (P x * P y + N x * N y) (P x * N y + N x * P y) (2 ^ 149)

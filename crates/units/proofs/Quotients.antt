@@ -53,7 +53,7 @@ quotient s t m n e d f g h =
         let r : x * p * (b * u) ≡ x * u * (b * p) = omega arith in
         l ∙ ap₂ (λ (v w : ℕ). v * w) (sym i) j ∙ r
 
--- the quotient of two finite floats, as an exact number rounded: the divisor above zero, and below zero
+-- the quotient of two finite floats, as an exact number rounded, over a divisor above zero
 pub div-rounds : (x y : Float) → Number x → Number y → 0 < P y → Rounds (div binary32 x y) (P x * 2 ^ 149) (N x * 2 ^ 149) (P y)
 unfolding negative
 div-rounds nan y h k l = absurd (h .is-finite)
@@ -63,6 +63,7 @@ div-rounds (fin s m e) (inf t) h k l = absurd (k .is-finite)
 div-rounds (fin s m e) (fin false n d) h k l = quotient s false m n e d (h .fits32) (k .fits32) l
 div-rounds (fin s m e) (fin true n d) h k l = absurd (lt-irrefl 0 l)
 
+-- the same over a divisor below zero
 pub div-rounds-neg : (x y : Float) → Number x → Number y → 0 < N y → Rounds (div binary32 x y) (N x * 2 ^ 149) (P x * 2 ^ 149) (N y)
 unfolding negative
 div-rounds-neg nan y h k l = absurd (h .is-finite)
@@ -90,7 +91,8 @@ div-operands (fin s m e) (fin u n d) f t = (tt, λ v. go (eqb n 0) (eqb m 0) (eq
     go false c i v =
         first-pos (mag (fin u n d)) (down d) (rw mag-exact (mul-pos (mul-pos (pos-of-ne-zero i) (up-pos d)) (pow-pos 149)))
 
--- ---- the standard model over a divisor above zero: the result is at most one part in 2 ^ 24 of the exact quotient off, and half a unit
+-- ---- the standard model
+-- over a divisor above zero a finite quotient is at most one part in 2 ^ 24 of the exact one off, and half a unit
 pub div-near : (x y : Float) → Number x → Number y → 0 < P y → T (finite (div binary32 x y))
     → Near ((P (div binary32 x y) * P y + N x * 2 ^ 149) * 2 ^ 24) ((N (div binary32 x y) * P y + P x * 2 ^ 149) * 2 ^ 24) (mag x * 2 ^ 149 + 2 ^ 23 * P y)
 div-near x y h k l t =

@@ -75,10 +75,11 @@ pub sides-lt : (z : Float) → Number z → (P z < 2 ^ 277) × (N z < 2 ^ 277)
 sides-lt z n = side-lt (negative z) (mag z) (2 ^ 277) (mag-lt z n)
 
 module _ (z : Float) (a b c : ℕ) (r : Rounds z a b c) where
-  -- a finite result is the rounding itself
+  -- a finite result is the rounding itself: its positive side
   pub rounds-plus : T (finite z) → P z ≡ rnd (a - b) c
   rounds-plus t = r .plus ∙ cap-under (rnd (a - b) c) (rw (r .plus) at (sides-lt z (record { fits32 = r .fits32; is-finite = t }) .0))
 
+  -- and its negative side
   pub rounds-minus : T (finite z) → N z ≡ rnd (b - a) c
   rounds-minus t = r .minus ∙ cap-under (rnd (b - a) c) (rw (r .minus) at (sides-lt z (record { fits32 = r .fits32; is-finite = t }) .1))
 
@@ -133,13 +134,14 @@ rounds-whole z a b d r n g = plain (P z) (N z) (rw (rounds-plus z a b 1 r n, rou
     whole : (x : ℕ) → Near (rnd x 1 * 1 * 2 ^ 24) (x * 2 ^ 24) (x + 0)
     whole x = rw (mul-one, add-zero) (rnd-whole x)
 
--- ---- order: of two exact numbers the larger has a result that is no smaller, infinities included
+-- ---- order
 scaled : (a b c a' b' c' : ℕ) → a * c' + b' * c ≤ a' * c + b * c' → (a - b) * c' ≤ (a' - b') * c
 scaled a b c a' b' c' h = less (a - b) (a' - b') (sub-mul a b c') (sub-mul a' b' c)
   where
     less : (x y : ℕ) → x * c' ≡ a * c' - b * c' → y * c ≡ a' * c - b' * c → x * c' ≤ y * c
     less x y u v = omega arith
 
+-- of two exact numbers the larger has a result that is no smaller, infinities included
 pub rounds-mono : (z z' : Float) (a b c a' b' c' : ℕ) → 0 < c → 0 < c' → Rounds z a b c → Rounds z' a' b' c' → a * c' + b' * c ≤ a' * c + b * c' → Le z z'
 rounds-mono z z' a b c a' b' c' C C' r r' h =
     let p : P z ≤ P z' = rw (r .plus, r' .plus) (cap-mono (rnd (a - b) c) (rnd (a' - b') c') (rnd-mono (a - b) c (a' - b') c' C C' (scaled a b c a' b' c' h))) in
@@ -177,16 +179,18 @@ module _ (z : Float) (a b c : ℕ) (C : 0 < c) (r : Rounds z a b c) where
       let g = rounds-exact (of-units s (q * 2 ^ j)) (of-units-number s q j h l) (rw (w .0, w .1) e) in
       (g .0 ∙ w .0, g .1 ∙ w .1)
 
-  -- and where it is at most that of a finite float, or at least that, so is the result
+  -- where it is at most a finite float, so is the result
   pub rounds-upto : (w : Float) → Number w → a + N w * c ≤ P w * c + b → Le z w
   rounds-upto w n h = rounds-mono z w a b c (P w) (N w) 1 C (lit< tt) r (rounds-self w n) (rw (mul-one a, mul-one b) h)
 
+  -- and where it is at least a finite float, so is the result
   pub rounds-from : (w : Float) → Number w → P w * c + b ≤ a + N w * c → Le w z
   rounds-from w n h = rounds-mono w z (P w) (N w) 1 a b c (lit< tt) C (rounds-self w n) r (rw (mul-one a, mul-one b) h)
 
-  -- a result is on the exact number's side of zero
+  -- a result is on the exact number's side of zero: not positive where that is not
   pub rounds-nonpositive : a ≤ b → P z ≡ 0
   rounds-nonpositive h = rw (r .plus, sub-eq-zero-of-le h, rnd-zero c C)
 
+  -- and not negative where that is not
   pub rounds-nonnegative : b ≤ a → N z ≡ 0
   rounds-nonnegative h = rw (r .minus, sub-eq-zero-of-le h, rnd-zero c C)

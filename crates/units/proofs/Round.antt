@@ -134,17 +134,19 @@ rnd-again n c d D =
     let e = r .3 in
     rnd-exact (rnd n c * d) d (r .0) (r .1) D (r .2) (ap (λ (x : ℕ). x * d) e) ∙ sym e
 
--- a fraction that is at most a number of 24 digits rounds to no more, and one that is at least it to no less
+-- a fraction that is at most a number of 24 digits rounds to no more
 pub rnd-upto : (n c q j : ℕ) → 0 < c → q ≤ 2 ^ 24 → n ≤ q * 2 ^ j * c → rnd n c ≤ q * 2 ^ j
 rnd-upto n c q j C h l = rw (rnd-exact (q * 2 ^ j * c) c q j C h refl) at (rnd-mono n c (q * 2 ^ j * c) c C C (mul-le-mul-right c l))
 
+-- and one that is at least such a number to no less
 pub rnd-from : (n c q j : ℕ) → 0 < c → q ≤ 2 ^ 24 → q * 2 ^ j * c ≤ n → q * 2 ^ j ≤ rnd n c
 rnd-from n c q j C h l = rw (rnd-exact (q * 2 ^ j * c) c q j C h refl) at (rnd-mono (q * 2 ^ j * c) c n c C C (mul-le-mul-right c l))
 
--- a whole number of units with 24 digits stays as it is, so any up to 2 ^ 24 does
+-- a whole number of units with 24 digits stays as it is
 pub rnd-stays : (n q j : ℕ) → q ≤ 2 ^ 24 → n ≡ q * 2 ^ j → rnd n 1 ≡ n
 rnd-stays n q j h e = rnd-exact n 1 q j (lit< tt) h (e ∙ sym (mul-one (q * 2 ^ j))) ∙ sym e
 
+-- so any up to 2 ^ 24 does
 pub rnd-small : (n : ℕ) → n ≤ 2 ^ 24 → rnd n 1 ≡ n
 rnd-small n h = rnd-stays n n 0 h (sym (mul-one n))
 

@@ -72,10 +72,11 @@ units-real s q k = go (ltb (q * 2 ^ k) (2 ^ 277))
 pub round-real : (s : Bool) (a c : ℕ) → T (not (isNan (round binary32 s a c)))
 round-real s a c = let n = a * 2 ^ 149 in rw round-is (units-real s (kept 24 n c) (drop 24 n c))
 
--- the two sides of it: the one of its sign has the size, the other is 0
+-- its positive side: its size where it is positive, and else 0
 pub round-P : (s : Bool) (a c : ℕ) → P (round binary32 s a c) ≡ cond s 0 (cap (rnd (a * 2 ^ 149) c))
 round-P s a c = rw (round-sign s a c, round-mag s a c)
 
+-- its negative side: its size where it is negative, and else 0
 pub round-N : (s : Bool) (a c : ℕ) → N (round binary32 s a c) ≡ cond s (cap (rnd (a * 2 ^ 149) c)) 0
 round-N s a c = rw (round-sign s a c, round-mag s a c)
 
@@ -99,9 +100,11 @@ of-units s n = round binary32 s n (2 ^ 149)
 stays : (q j : ℕ) → q ≤ 2 ^ 24 → rnd (q * 2 ^ j * 2 ^ 149) (2 ^ 149) ≡ q * 2 ^ j
 stays q j h = rnd-exact (q * 2 ^ j * 2 ^ 149) (2 ^ 149) q j (pow-pos 149) h refl
 
+-- a number of 24 digits below 2 ^ 277 has a finite float
 pub of-units-number : (s : Bool) (q j : ℕ) → q ≤ 2 ^ 24 → q * 2 ^ j < 2 ^ 277 → Number (of-units s (q * 2 ^ j))
 of-units-number s q j h l = round-number s (q * 2 ^ j) (2 ^ 149) (rw (stays q j h) l)
 
+-- which is that number, with the sign that was asked for
 pub of-units-sides : (s : Bool) (q j : ℕ) → q ≤ 2 ^ 24 → q * 2 ^ j < 2 ^ 277
     → (P (of-units s (q * 2 ^ j)) ≡ cond s 0 (q * 2 ^ j)) × (N (of-units s (q * 2 ^ j)) ≡ cond s (q * 2 ^ j) 0)
 of-units-sides s q j h l =

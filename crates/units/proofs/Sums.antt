@@ -101,6 +101,7 @@ neg-finite nan = refl
 neg-finite (inf s) = refl
 neg-finite (fin s m e) = refl
 
+-- and is finite where x is
 pub neg-number : (x : Float) → Number x → Number (neg x)
 neg-number x n = record { fits32 = neg-fits binary32 x (n .fits32); is-finite = rw neg-finite (n .is-finite) }
 
@@ -116,24 +117,28 @@ sub-rounds x y h k = rw sub-is (rw (neg-sides y .0, neg-sides y .1) at (add-roun
 pub sub-operands : (x y : Float) → T (finite (sub binary32 x y)) → T (finite x) × T (finite y)
 sub-operands x y t = let u = add-operands x (neg y) (rw sub-is at t) in (u .0, rw neg-finite at (u .1))
 
--- ---- the standard model: where d is at least the size of the exact sum, the result is at most d / 2 ^ 24 off
+-- ---- the standard model
+-- where d is at least the size of the exact sum, a finite result is at most d / 2 ^ 24 off
 pub add-near : (x y : Float) (d : ℕ) → Number x → Number y → T (finite (add binary32 x y)) → Near (P x + P y) (N x + N y) d
     → Near ((P (add binary32 x y) + (N x + N y)) * 2 ^ 24) ((N (add binary32 x y) + (P x + P y)) * 2 ^ 24) d
 add-near x y d h k t g = rounds-whole (add binary32 x y) (P x + P y) (N x + N y) d (add-rounds x y h k) t g
 
+-- where d is at least the size of the exact difference, a finite result is at most d / 2 ^ 24 off
 pub sub-near : (x y : Float) (d : ℕ) → Number x → Number y → T (finite (sub binary32 x y)) → Near (P x + N y) (N x + P y) d
     → Near ((P (sub binary32 x y) + (N x + P y)) * 2 ^ 24) ((N (sub binary32 x y) + (P x + N y)) * 2 ^ 24) d
 sub-near x y d h k t g = rounds-whole (sub binary32 x y) (P x + N y) (N x + P y) d (sub-rounds x y h k) t g
 
--- ---- order, infinite results included: a sum never falls where its operands grow, nor a difference where the first grows and the second falls
+-- ---- order, infinite results included
 grown : (a b c d a' b' c' d' : ℕ) → a + b' ≤ a' + b → c + d' ≤ c' + d → (a + c) * 1 + (b' + d') * 1 ≤ (a' + c') * 1 + (b + d) * 1
 grown a b c d a' b' c' d' h g = omega arith
 
+-- a sum never falls where its operands grow
 pub add-mono : (x x' y y' : Float) → Number x → Number x' → Number y → Number y' → Le x x' → Le y y' → Le (add binary32 x y) (add binary32 x' y')
 add-mono x x' y y' h h' k k' l m =
     rounds-mono (add binary32 x y) (add binary32 x' y') (P x + P y) (N x + N y) 1 (P x' + P y') (N x' + N y') 1 (lit< tt) (lit< tt) (add-rounds x y h k) (add-rounds x' y' h' k')
     (grown (P x) (N x) (P y) (N y) (P x') (N x') (P y') (N y') l m)
 
+-- nor a difference where the first grows and the second falls
 pub sub-mono : (x x' y y' : Float) → Number x → Number x' → Number y → Number y' → Le x x' → Le y' y → Le (sub binary32 x y) (sub binary32 x' y')
 sub-mono x x' y y' h h' k k' l m =
     rounds-mono (sub binary32 x y) (sub binary32 x' y') (P x + N y) (N x + P y) 1 (P x' + N y') (N x' + P y') 1 (lit< tt) (lit< tt) (sub-rounds x y h k) (sub-rounds x' y' h' k')
