@@ -1,9 +1,9 @@
 -- Laws on whole numbers that the kit's library lacks. Assumes nothing.
-use mathlib.Core.Path.{_≡_, ap, sym, _∙_}
+use mathlib.Core.Path.{_≡_, ap, ap₂, sym, _∙_}
 use mathlib.Core.Logic.{_⊎_, inl, inr}
 use mathlib.Core.Bool.{Bool, true, false, not}
 use Prim.Native.Nat.{ℕ, _+_, _-_, _*_, _^_, _≤_, _<_}
-use native.Mathlib.Nat.{le-trans, le-of-eq, lt-of-le-of-lt, lt-of-lt-of-le, not-le-of-lt, mul-le-mul-right, le-of-mul-le-mul-right, mul-lt-mul-of-pos-right, lt-of-mul-lt-mul-right}
+use native.Mathlib.Nat.{le-trans, le-of-eq, lt-of-le-of-lt, lt-of-lt-of-le, not-le-of-lt, mul-comm, mul-sub, mul-le-mul-right, le-of-mul-le-mul-right, mul-lt-mul-of-pos-right, lt-of-mul-lt-mul-right}
 use native.Mathlib.Omega.{arith}
 use lib.Dec.{T, leb, leb→le, nleb→lt}
 use lib.Pow.{pow-add, pow-mono, pow-lt}
@@ -36,3 +36,7 @@ module _ (u v : ℕ) {a b x y : ℕ} (p : a * u ≡ x * v) (q : b * u ≡ y * v)
 
   pub proportion-lt : 0 < v → x < y → a < b
   proportion-lt pv h = lt-of-mul-lt-mul-right u (lt-of-le-of-lt (le-of-eq p) (lt-of-lt-of-le (mul-lt-mul-of-pos-right h pv) (le-of-eq (sym q))))
+
+-- a factor goes into a difference
+pub sub-mul : (a b c : ℕ) → (a - b) * c ≡ a * c - b * c
+sub-mul a b c = mul-comm (a - b) c ∙ mul-sub c a b ∙ ap₂ (λ (x y : ℕ). x - y) (mul-comm c a) (mul-comm c b)

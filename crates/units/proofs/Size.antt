@@ -1,15 +1,17 @@
 -- A finite f32 is a whole number of units: `mag` divides without a remainder, so it is the size of the float and not a size rounded down.
 use mathlib.Core.Path.{_≡_, sym, ap, _∙_}
 use Prim.Native.Nat.{ℕ, zero, suc, _+_, _-_, _*_, _/_, _%_, _^_, _≤_, _<_}
-use native.Mathlib.Nat.{le-of-suc-le-suc, lt-irrefl, lt-of-not-le, not-le-of-lt, zero-mul, zero-div, mul-one, mul-comm, mul-assoc, mul-right-comm, mul-lt-mul-of-pos-right, sub-add-cancel, div-eq-of-eq-mul-left, div-lt-iff-lt-mul}
+use native.Mathlib.Nat.{lt-irrefl, zero-mul, zero-div, mul-one, mul-comm, mul-assoc, mul-right-comm, mul-lt-mul-of-pos-right, sub-add-cancel, div-eq-of-eq-mul-left, div-lt-iff-lt-mul}
 use mathlib.Core.Bool.{Bool, not, _&&_}
 use lib.IntN.{ℤ, pos, negsuc}
 use lib.Dec.{T, leb, ltb, eqb, leb→le, ltb→lt}
-use lib.Pow.{pow-add, pow-pos, pow-lt}
+use lib.Pow.{pow-add, pow-pos}
 use lib.Ieee.{Float, nan, inf, fin, up, down, binary32, fits, isNan}
 use lib.Ieee.Fits.{down-pos, and-l, and-r}
 use lib.Ieee.Exact.{HasValue}
+use lib.Ieee.Scale.{finite}
 use Rattle.units.specs.Units.{mag, negative, Number}
+use Rattle.units.proofs.Naturals.{pow-back}
 
 -- ---- what fitting says of a number that is not zero
 module _ (s : Bool) (m : ℕ) (e : ℤ) (f : T (fits binary32 (fin s (suc m) e))) where
@@ -35,9 +37,6 @@ module _ (s : Bool) (m : ℕ) (e : ℤ) (f : T (fits binary32 (fin s (suc m) e))
       ltb→lt (suc m * up e) (2 ^ 128 * down e) (and-r a (ltb (suc m * up e) (2 ^ 128 * down e)) f)
 
 -- ---- 2 ^ e is a whole number of units where it is one unit at least
-pow-le : (i j : ℕ) → 2 ^ i ≤ 2 ^ j → i ≤ j
-pow-le i j h = le-of-suc-le-suc (lt-of-not-le (λ (g : suc j ≤ i). not-le-of-lt (pow-lt g) h))
-
 -- how many digits a float with this exponent has below its significand, counted from the unit
 abbrev pub place : ℤ → ℕ
 place (pos k) = k + 149
@@ -46,7 +45,7 @@ place (negsuc k) = 149 - suc k
 place-is : (e : ℤ) → down e ≤ 2 ^ 149 → up e * 2 ^ 149 ≡ 2 ^ place e * down e
 place-is (pos k) h = sym (pow-add 2 k 149) ∙ sym (mul-one (2 ^ (k + 149)))
 place-is (negsuc k) h =
-    mul-comm 1 (2 ^ 149) ∙ mul-one (2 ^ 149) ∙ ap (λ (x : ℕ). 2 ^ x) (sym (sub-add-cancel (pow-le (suc k) 149 h))) ∙ pow-add 2 (149 - suc k) (suc k)
+    mul-comm 1 (2 ^ 149) ∙ mul-one (2 ^ 149) ∙ ap (λ (x : ℕ). 2 ^ x) (sym (sub-add-cancel (pow-back (suc k) 149 h))) ∙ pow-add 2 (149 - suc k) (suc k)
 
 whole : (m : ℕ) (e : ℤ) → down e ≤ 2 ^ 149 → m * up e * 2 ^ 149 ≡ m * 2 ^ place e * down e
 whole m e h = mul-assoc m (up e) (2 ^ 149) ∙ ap (λ (x : ℕ). m * x) (place-is e h) ∙ sym (mul-assoc m (2 ^ place e) (down e))
@@ -96,3 +95,10 @@ unfolding mag isNan
 finite-of-mag nan f t h = absurd t
 finite-of-mag (inf s) f t h = absurd (lt-irrefl (2 ^ 277) h)
 finite-of-mag (fin s m e) f t h = record { fits32 = f; is-finite = tt }
+
+-- what is finite is no NaN
+pub finite-real : (x : Float) → T (finite x) → T (not (isNan x))
+unfolding isNan
+finite-real nan t = t
+finite-real (inf s) t = tt
+finite-real (fin s m e) t = tt
