@@ -97,11 +97,8 @@ fn reciprocal_above_zero(x: f32) -> f32
 pub fn rsqrt(x: f32, out: &mut f32) -> u32
     ensures { λ code. ⌜ Rsqrt x code (now (out .entry)) (now (out .exit)) ⌝ }
 {
-    if 0.0 <= x {
+    if 0.0 < x {
         if x <= f32::from_bits(0x7f7f_ffff) {
-            if x == 0.0 {
-                return 1;
-            }
             *out = reciprocal_above_zero(x);
             return 0;
         }

@@ -154,6 +154,10 @@ module _ (x y : Float) (h : Number x) (k : Number y) where
       go false q a b e = elim (le-or-lt (P x + N y) (P y + N x)) [ inl l ↦ absurd (b e (omega (arith, a refl))) | inr l ↦ l ]
 
 -- ---- a float between two finite ones is finite
+lt-le : (x y : Float) → lt x y ≡ true → le x y ≡ true
+unfolding le
+lt-le x y e = ap (λ (b : Bool). b || eq x y) e
+
 pub finite-between : (lo x hi : Float) → T (finite lo) → T (finite hi) → le lo x ≡ true → le x hi ≡ true → T (finite x)
 unfolding le lt eq
 finite-between nan x hi f g a b = absurd f
@@ -182,23 +186,40 @@ upto-greatest x h =
     at-most : (p n m p' n' g : ℕ) → p + n ≡ m → p' ≡ g → n' ≡ 0 → m ≤ g → p + n' ≤ p' + n
     at-most p n m p' n' g a b c d = omega arith
 
+-- the units of zero
+zero-units : (P (ofBits binary32 0) ≡ 0) × (N (ofBits binary32 0) ≡ 0)
+zero-units = (plus-of (ofBits binary32 0) (zero-is .sign) ∙ zero-is .units, minus-of (ofBits binary32 0) (zero-is .sign))
+
 module _ (x : Float) where
+  -- the test with the greatest float, beside one from below, shows that x is finite
+  number-from : (lo : Float) → T (finite lo) → T (fits binary32 x) → le lo x ≡ true → le x (ofBits binary32 2139095039) ≡ true → Number x
+  number-from lo f t a b = record { fits32 = t; is-finite = finite-between lo x (ofBits binary32 2139095039) f (greatest-is .number .is-finite) a b }
+
   pub at-least-zero : T (fits binary32 x) → le (ofBits binary32 0) x ≡ true → le x (ofBits binary32 2139095039) ≡ true → Number x × (N x ≡ 0)
   at-least-zero f a b =
-      let z = zero-is in
-      let g = greatest-is in
-      let h : Number x = record { fits32 = f; is-finite = finite-between (ofBits binary32 0) x (ofBits binary32 2139095039) (z .number .is-finite) (g .number .is-finite) a b } in
-      let l = le-true (ofBits binary32 0) x (z .number) h a in
-      let p = plus-of (ofBits binary32 0) (z .sign) ∙ z .units in
-      let n = minus-of (ofBits binary32 0) (z .sign) in
+      let h = number-from (ofBits binary32 0) (zero-is .number .is-finite) f a b in
+      let l = le-true (ofBits binary32 0) x (zero-is .number) h a in
+      let z = zero-units in
       (h, elim (sides x) [ inl c ↦ c .1 | inr c ↦ omega arith ])
+
+  pub above-zero : T (fits binary32 x) → lt (ofBits binary32 0) x ≡ true → le x (ofBits binary32 2139095039) ≡ true → Number x × (N x ≡ 0) × (0 < mag x)
+  above-zero f a b =
+      let h = number-from (ofBits binary32 0) (zero-is .number .is-finite) f (lt-le (ofBits binary32 0) x a) b in
+      let l = lt-true (ofBits binary32 0) x (zero-is .number) h a in
+      let z = zero-units in
+      elim (sides x) [ inl c ↦ (h, c .1, omega arith) | inr c ↦ absurd (not-le-of-lt l (omega arith)) ]
 
   pub below-zero : Number x → le (ofBits binary32 0) x ≡ false → N x ≡ 0 → ⊥
   below-zero h a e =
-      let z = zero-is in
-      let l = le-false (ofBits binary32 0) x (z .number) h a in
-      let p = plus-of (ofBits binary32 0) (z .sign) ∙ z .units in
+      let l = le-false (ofBits binary32 0) x (zero-is .number) h a in
+      let z = zero-units in
       omega arith
+
+  pub not-above-zero : Number x → lt (ofBits binary32 0) x ≡ false → N x ≡ 0 → 0 < mag x → ⊥
+  not-above-zero h a e k =
+      let l = lt-false (ofBits binary32 0) x (zero-is .number) h a in
+      let z = zero-units in
+      omega (arith, size-sum x)
 
   pub not-finite : Number x → le x (ofBits binary32 2139095039) ≡ false → ⊥
   not-finite h a = not-le-of-lt (le-false x (ofBits binary32 2139095039) h (greatest-is .number) a) (upto-greatest x h)
@@ -206,15 +227,11 @@ module _ (x : Float) where
   -- the test with zero
   pub eq-zero : Number x → eq x (ofBits binary32 0) ≡ true → mag x ≡ 0
   eq-zero h a =
-      let z = zero-is in
-      let e = eq-true x (ofBits binary32 0) h (z .number) a in
-      let p = plus-of (ofBits binary32 0) (z .sign) ∙ z .units in
-      let n = minus-of (ofBits binary32 0) (z .sign) in
+      let e = eq-true x (ofBits binary32 0) h (zero-is .number) a in
+      let z = zero-units in
       elim (sides x) [ inl c ↦ omega arith | inr c ↦ omega arith ]
 
   pub eq-not-zero : Number x → eq x (ofBits binary32 0) ≡ false → 0 < mag x
   eq-not-zero h a =
-      let z = zero-is in
-      let p = plus-of (ofBits binary32 0) (z .sign) ∙ z .units in
-      let n = minus-of (ofBits binary32 0) (z .sign) in
-      elim (le-or-lt (mag x) 0) [ inl k ↦ absurd (eq-false x (ofBits binary32 0) h (z .number) a (omega (arith, size-sum x))) | inr k ↦ k ]
+      let z = zero-units in
+      elim (le-or-lt (mag x) 0) [ inl k ↦ absurd (eq-false x (ofBits binary32 0) h (zero-is .number) a (omega (arith, size-sum x))) | inr k ↦ k ]
