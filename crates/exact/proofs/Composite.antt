@@ -23,6 +23,12 @@ split f m p k pos e =
     let (z, sum) = le-dest (le-of-mul-le-mul-right less pos) in
     (z, omega arith, omega (arith, ap (λ (y : ℕ). y * k) sum))
 
+-- at x / d: t is z / (B d ^ j) with z no less than 0, and cs us(t) is at most bs
+pub record Composite (n : ℕ) (cs : List ℕ) (j : ℕ) (plus minus : List ℕ) (B m : ℕ) (us bs : List ℕ) (x d : ℕ) : Type 0 where
+  pub z : ℕ
+  pub at-z : z + value j minus x d ≡ value j plus x d
+  pub under : value n cs x d * value m us z (B * d ^ j) ≤ B ^ m * value (n + m * j) bs x d
+
 module _ (N n : ℕ) (cs : List ℕ) (j : ℕ) (plus minus : List ℕ) (B m : ℕ) (us bs : List ℕ) where
   -- the numerator of t, and us at t, as forms
   unfoldable pub top : ℕ → ℕ → List ℕ
@@ -39,12 +45,6 @@ module _ (N n : ℕ) (cs : List ℕ) (j : ℕ) (plus minus : List ℕ) (B m : �
   composite a b =
       ltb a b && (dominated (piece N a b j minus .0) (piece N a b j plus .0)
       && dominated (mul (piece N a b n cs .0) (inner a b)) (scale (B ^ m) (piece N a b (n + m * j) bs .0)))
-
-  -- what it shows: t(x) is z / (B d ^ j) with z no less than 0, and the inequality
-  pub record Composite (x d : ℕ) : Type 0 where
-    pub z : ℕ
-    pub at-z : z + value j minus x d ≡ value j plus x d
-    pub under : value n cs x d * value m us z (B * d ^ j) ≤ B ^ m * value (n + m * j) bs x d
 
   module _ (fits-cs : length cs ≤ suc n) (fits-plus : length plus ≤ suc j) (fits-minus : length minus ≤ suc j) (fits-us : length us ≤ suc m) (fits-bs : length bs ≤ suc (n + m * j)) where
     module _ {a b x d : ℕ} (i : Inside N a b x d) where
@@ -98,7 +98,7 @@ module _ (N n : ℕ) (cs : List ℕ) (j : ℕ) (plus minus : List ℕ) (B m : �
           rw (e, value-scale-by ((n + m * j) * 1) (B ^ m) (piece N a b (n + m * j) bs .0) (i .u) (i .v), value-piece i (n + m * j) bs fits-bs)
           (sym (mul-assoc (B ^ m) (value (n + m * j) bs x d) (i .k ^ (n + m * j))))
 
-    composite-piece : 0 < N → (a b : ℕ) → T (composite a b) → (x d : ℕ) → a * d ≤ N * x → N * x ≤ b * d → Composite x d
+    composite-piece : 0 < N → (a b : ℕ) → T (composite a b) → (x d : ℕ) → a * d ≤ N * x → N * x ≤ b * d → Composite n cs j plus minus B m us bs x d
     unfolding composite
     composite-piece pos a b t x d low high =
         let left = mul (piece N a b n cs .0) (inner a b) in
@@ -116,5 +116,5 @@ module _ (N n : ℕ) (cs : List ℕ) (j : ℕ) (plus minus : List ℕ) (B m : �
         }
 
     -- the inequality holds from a / N to the last knot
-    pub composite-sound : 0 < N → (a : ℕ) (es : List ℕ) → T (each composite a es) → (x d : ℕ) → a * d ≤ N * x → N * x ≤ end a es * d → Composite x d
-    composite-sound pos = over N composite Composite (composite-piece pos)
+    pub composite-sound : 0 < N → (a : ℕ) (es : List ℕ) → T (each composite a es) → (x d : ℕ) → a * d ≤ N * x → N * x ≤ end a es * d → Composite n cs j plus minus B m us bs x d
+    composite-sound pos = over N composite (Composite n cs j plus minus B m us bs) (composite-piece pos)

@@ -4,3 +4,6 @@ pub mod Growth
 pub mod Forms
 pub mod Pieces
 pub mod Composite
+pub mod Enclosure
+pub mod Tight
+pub mod Near

@@ -18,3 +18,8 @@ value-scale (suc n) (c ∷ cs) x d k fits = rw (mul-pow, pow-suc k n, value-scal
   where
     through : (D F K : ℕ) → c * (D * (K * k)) + x * k * (F * K) ≡ (c * D + x * F) * (K * k)
     through D F K = omega arith
+
+-- a constant
+pub value-constant : (n c x d : ℕ) → value n (c ∷ []) x d ≡ c * d ^ n
+unfolding value
+value-constant n c x d = omega arith

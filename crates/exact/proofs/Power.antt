@@ -2,7 +2,7 @@
 -- Each law is shown of `AtMost`; its mirror image is the same law of the reciprocal, d / n against 2 ^ ((m - p) / q).
 use mathlib.Core.Path.{_≡_, refl}
 use Prim.Native.Nat.{ℕ, zero, suc, _+_, _*_, _^_, _≤_, _<_}
-use native.Mathlib.Nat.{le-of-eq, mul-comm, mul-one, mul-zero, mul-mul-mul-comm, pow-zero, pow-suc, mul-suc, mul-le-mul, mul-le-mul-right, le-of-mul-le-mul-right, lt-of-not-le, not-le-of-lt, pow-le-pow-left, pow-lt-pow-left, one-le-pow, ne-of-gt}
+use native.Mathlib.Nat.{le-trans, one-le-mul, zero-mul, le-of-eq, mul-comm, mul-one, mul-zero, mul-mul-mul-comm, pow-zero, pow-suc, mul-suc, mul-le-mul, mul-le-mul-right, le-of-mul-le-mul-right, lt-of-not-le, not-le-of-lt, pow-le-pow-left, pow-lt-pow-left, one-le-pow, ne-of-gt}
 use native.Mathlib.Decide.{decLe}
 use native.Mathlib.Omega.{arith}
 use lib.Pow.{pow-add, pow-pos, pow-mono}
@@ -13,6 +13,11 @@ use Rattle.exact.specs.Power.{AtMost, AtLeast}
 -- the first power
 pub pow-one : (a : ℕ) → a ^ 1 ≡ a
 pow-one a = rw (pow-suc a 0, pow-zero) (omega arith)
+
+-- powers of 1
+pub one-pow : (k : ℕ) → 1 ^ k ≡ 1
+one-pow zero = refl
+one-pow (suc k) = rw (pow-suc, one-pow k) refl
 
 -- the square
 pub pow-two : (a : ℕ) → a ^ 2 ≡ a * a
@@ -128,3 +133,14 @@ most-shift {q} k j h = most-mul h (record { holds = le-of-eq (rw (pow-mul, pow-m
 -- n 2 ^ k / (d 2 ^ j) is at least 2 ^ (e + k - j) where n / d is at least 2 ^ e
 pub least-shift : {n d p m q : ℕ} (k j : ℕ) → AtLeast n d p m q → AtLeast (n * 2 ^ k) (d * 2 ^ j) (p + k * q) (m + j * q) q
 least-shift k j h = at-least (most-shift j k (at-most h))
+
+-- ---- signs
+
+pos-of-pow : (n q k : ℕ) → 0 < q → 0 < n ^ q * k → 0 < n
+pos-of-pow n zero k pos h = absurd (omega arith)
+pos-of-pow zero (suc q) k pos h = absurd (omega (arith, rw (pow-suc 0 q, mul-zero, zero-mul) at h))
+pos-of-pow (suc n) (suc q) k pos h = omega arith
+
+-- what is at least a power of two is above zero
+pub least-pos : {n d p m q : ℕ} → 0 < d → 0 < q → AtLeast n d p m q → 0 < n
+least-pos {n} {d} {p} {m} {q} dpos qpos h = pos-of-pow n q (2 ^ m) qpos (le-trans (one-le-mul (pow-pos p) (one-le-pow q d dpos)) (h .holds))
