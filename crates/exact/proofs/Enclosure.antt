@@ -1,67 +1,68 @@
--- Bounds of 2 ^ t by polynomials, 0 ≤ t ≤ 1: from above by a list that outgrows it, from below by 2 over the same list at 1 - t.
+-- Bounds of 2 ^ t by polynomials from above and from below, for 0 ≤ t ≤ 1, and what a composite with one says of 2 ^ t.
 use mathlib.Core.Path.{_≡_, refl, ap}
+use mathlib.Core.Bool.{Bool, true, false}
 use mathlib.Core.List.{List, _∷_}
 use Prim.Native.Nat.{ℕ, suc, _+_, _*_, _^_, _≤_, _<_, suc-le-suc}
-use native.Mathlib.Nat.{mul-one, mul-comm, one-le-mul, one-le-pow, mul-le-mul-right}
+use native.Mathlib.Nat.{mul-comm, one-le-mul, one-le-pow, mul-le-mul-right}
 use native.Mathlib.Omega.{arith}
-use lib.Dec.{T, leb, leb→le}
-use lib.Pow.{pow-pos}
+use lib.Dec.{T}
 use lib.ListN.{length}
 use Rattle.exact.specs.Power.{AtMost, AtLeast}
 use Rattle.exact.specs.Polynomial.{value}
-use Rattle.exact.proofs.Power.{mul-pow, pow-mul, at-most, most-of-less, least-of-more, most-shift, most-of-larger, least-pos}
-use Rattle.exact.proofs.Growth.{outgrows, squared, doubles, above}
-use Rattle.exact.proofs.Composite.{Composite}
+use Rattle.exact.proofs.Power.{mul-pow, pow-mul, most-of-less, least-of-more, least-pos}
+use Rattle.exact.proofs.Growth.{fast, slow, above, beneath}
+use Rattle.exact.proofs.Composite.{Ordered, Composite}
 
 -- 2 ^ t ≤ us(t) / K for every fraction t from 0 to 1; the degree of us is at most m
-pub record Encloses (m : ℕ) (us : List ℕ) (K : ℕ) : Type 0 where
+pub record Above (m : ℕ) (us : List ℕ) (K : ℕ) : Type 0 where
   pub unit : 0 < K
   pub fits : length us ≤ suc m
-  pub upper : (p q : ℕ) → 0 < q → p ≤ q → AtLeast (value m us p q) (K * q ^ m) p 0 q
+  pub bound : (p q : ℕ) → 0 < q → p ≤ q → AtLeast (value m us p q) (K * q ^ m) p 0 q
 
--- a list that outgrows 2 ^ t, shown by the squares of 1 + b / (c 2 ^ r)
-pub grown : (b c r m K : ℕ) (us : List ℕ) → 0 < K → 0 < c → length us ≤ m → T (outgrows b c 1 K us) → T (leb (2 * (c * 2 ^ r)) (squared r (c * 2 ^ r + b) (c * 2 ^ r))) → Encloses m (K ∷ us) K
-grown b c r m K us unit pos fits fast two =
-    record {
-      unit = unit;
-      fits = suc-le-suc fits;
-      upper = λ p q qpos small. above b c (2 ^ r) K us m fits fast p q pos (pow-pos r) qpos small (doubles r (c * 2 ^ r + b) (c * 2 ^ r) (leb→le (2 * (c * 2 ^ r)) (squared r (c * 2 ^ r + b) (c * 2 ^ r)) two));
-    }
+-- us(t) / K ≤ 2 ^ t for every fraction t from 0 on
+pub record Below (m : ℕ) (us : List ℕ) (K : ℕ) : Type 0 where
+  pub unit : 0 < K
+  pub fits : length us ≤ suc m
+  pub bound : (p q : ℕ) → 0 < q → AtMost (value m us p q) (K * q ^ m) p 0 q
 
--- 2 K / us(1 - t) ≤ 2 ^ t, with t = z / w and 1 - t = y / w
-pub lower : {m : ℕ} {us : List ℕ} {K : ℕ} → Encloses m us K → (y z w : ℕ) → 0 < w → y + z ≡ w → AtMost (K * w ^ m * 2) (value m us y w) z 0 w
-lower {m} {us} {K} e y z w pos sum =
-    let small : y ≤ w = omega arith in
-    rw mul-one at (most-of-larger {p' = z} {m' = 0} {q' = w} pos (omega (arith, ap (λ (n : ℕ). n * w) sum)) (most-shift 1 0 (at-most (e .upper y w pos small))))
+module _ (b c r m K : ℕ) (us : List ℕ) (unit : 0 < K) (cpos : 0 < c) (fits : length us ≤ m) where
+  -- a list that outgrows 2 ^ t
+  pub is-above : T (fast b c r K us) → Above m (K ∷ us) K
+  is-above t = record { unit = unit; fits = suc-le-suc fits; bound = λ p q qpos small. above b c r K us m fits p q cpos qpos small t }
 
--- what encloses is above zero
-pub enclosure-pos : {m : ℕ} {us : List ℕ} {K : ℕ} → Encloses m us K → (p q : ℕ) → 0 < q → p ≤ q → 0 < value m us p q
-enclosure-pos {m} e p q pos small = least-pos (one-le-mul (e .unit) (one-le-pow m q pos)) pos (e .upper p q pos small)
+  -- a list that lags behind 2 ^ t
+  pub is-below : b < c → T (slow b c r K us) → Below m (K ∷ us) K
+  is-below less t = record { unit = unit; fits = suc-le-suc fits; bound = λ p q qpos. beneath b c r K us m fits p q cpos qpos less t }
 
--- ---- a composite with the enclosure
+-- what bounds from above is above zero
+pub above-pos : {m : ℕ} {us : List ℕ} {K : ℕ} → Above m us K → (p q : ℕ) → 0 < q → p ≤ q → 0 < value m us p q
+above-pos {m} e p q pos small = least-pos (one-le-mul (e .unit) (one-le-pow m q pos)) pos (e .bound p q pos small)
 
--- of a test cs(x) us(t) ≤ bs(x), with t = z / w
-module _ {m : ℕ} {us : List ℕ} {K : ℕ} (e : Encloses m us K) {n : ℕ} {cs : List ℕ} {j : ℕ} {plus minus : List ℕ} {B : ℕ} {bs : List ℕ} {x d : ℕ} (c : Composite n cs j plus minus B m us bs x d) (pos : 0 < B * d ^ j) where
-  denominator : (B * d ^ j) ^ m ≡ B ^ m * d ^ (m * j)
-  denominator = rw (mul-pow B (d ^ j) m, mul-comm m j, pow-mul d j m) refl
+-- ---- a composite with a bound of 2 ^ t, where t = z / w and E = cs(x) - ds(x)
 
-  crossed : (C U P Q D : ℕ) → C * U ≤ P * Q → U * (K * D * C) ≤ Q * (K * (P * D))
-  crossed C U P Q D h = omega (arith, mul-le-mul-right (K * D) h)
+denominator : (B d j m : ℕ) → (B * d ^ j) ^ m ≡ B ^ m * d ^ (m * j)
+denominator B d j m = rw (mul-pow B (d ^ j) m, mul-comm m j, pow-mul d j m) refl
 
-  -- 2 ^ t ≤ bs(x) / (K cs(x))
-  pub above-composite : c .z ≤ B * d ^ j → AtLeast (value (n + m * j) bs x d) (K * d ^ (m * j) * value n cs x d) (c .z) 0 (B * d ^ j)
-  above-composite small =
-      least-of-more (enclosure-pos e (c .z) (B * d ^ j) pos small)
-      (crossed (value n cs x d) (value m us (c .z) (B * d ^ j)) (B ^ m) (value (n + m * j) bs x d) (d ^ (m * j)) (c .under))
-      (rw denominator at (e .upper (c .z) (B * d ^ j) pos small))
+-- E us(t) against bs(x), over the common denominators
+crossed : (K E : ℕ) (up : Bool) (C D U P Q R : ℕ) → E + D ≡ C → Ordered up (C * U) (D * U + P * Q) → Ordered up (U * (K * R * E)) (Q * (K * (P * R)))
+crossed K E true C D U P Q R s h =
+    let h' : E * U ≤ P * Q = omega (arith, ap (λ (y : ℕ). y * U) s) in
+    omega (arith, mul-le-mul-right (K * R) h')
+crossed K E false C D U P Q R s h =
+    let h' : P * Q ≤ E * U = omega (arith, ap (λ (y : ℕ). y * U) s) in
+    omega (arith, mul-le-mul-right (K * R) h')
 
-  -- 2 K cs(x) / bs(x) ≤ 2 ^ (1 - t), with 1 - t = y / w
-  pub below-composite : (y : ℕ) → c .z + y ≡ B * d ^ j → AtMost (K * d ^ (m * j) * value n cs x d * 2) (value (n + m * j) bs x d) y 0 (B * d ^ j)
-  below-composite y sum =
-      most-of-less (enclosure-pos e (c .z) (B * d ^ j) pos (omega arith))
-      (doubled (K * d ^ (m * j) * value n cs x d) (value m us (c .z) (B * d ^ j)) (value (n + m * j) bs x d) (K * (B ^ m * d ^ (m * j)))
-      (crossed (value n cs x d) (value m us (c .z) (B * d ^ j)) (B ^ m) (value (n + m * j) bs x d) (d ^ (m * j)) (c .under)))
-      (rw denominator at (lower e (c .z) y (B * d ^ j) pos sum))
-    where
-      doubled : (X U Q Y : ℕ) → U * X ≤ Q * Y → X * 2 * U ≤ Y * 2 * Q
-      doubled X U Q Y h = omega arith
+module _ {m : ℕ} {us : List ℕ} {K n : ℕ} {cs ds : List ℕ} {j : ℕ} {plus minus : List ℕ} {B : ℕ} {bs : List ℕ} {x d : ℕ} (pos : 0 < B * d ^ j) (E : ℕ) (rest : E + value n ds x d ≡ value n cs x d) where
+  -- 2 ^ t ≤ bs(x) / (K E)
+  pub above-composite : Above m us K → (c : Composite true n cs ds j plus minus B m us bs x d) → c .z ≤ B * d ^ j → AtLeast (value (n + m * j) bs x d) (K * d ^ (m * j) * E) (c .z) 0 (B * d ^ j)
+  above-composite e c small =
+      least-of-more (above-pos e (c .z) (B * d ^ j) pos small)
+      (crossed K E true (value n cs x d) (value n ds x d) (value m us (c .z) (B * d ^ j)) (B ^ m) (value (n + m * j) bs x d) (d ^ (m * j)) rest (c .sides))
+      (rw (denominator B d j m) at (e .bound (c .z) (B * d ^ j) pos small))
+
+  -- bs(x) / (K E) ≤ 2 ^ t
+  pub below-composite : Below m us K → (c : Composite false n cs ds j plus minus B m us bs x d) → AtMost (value (n + m * j) bs x d) (K * d ^ (m * j) * E) (c .z) 0 (B * d ^ j)
+  below-composite e c =
+      most-of-less (rw (denominator B d j m) at (one-le-mul (e .unit) (one-le-pow m (B * d ^ j) pos)))
+      (crossed K E false (value n cs x d) (value n ds x d) (value m us (c .z) (B * d ^ j)) (B ^ m) (value (n + m * j) bs x d) (d ^ (m * j)) rest (c .sides))
+      (rw (denominator B d j m) at (e .bound (c .z) (B * d ^ j) pos))
