@@ -7,3 +7,4 @@ pub mod Composite
 pub mod Enclosure
 pub mod Tight
 pub mod Near
+pub mod Logarithm
