@@ -4,15 +4,15 @@ use mathlib.Core.Path.{_≡_, ap}
 use mathlib.Core.Bool.{Bool, false, _&&_}
 use mathlib.Core.List.{List, [], _∷_}
 use Prim.Native.Nat.{ℕ, zero, suc, _+_, _*_, _^_, _≤_, _<_}
-use native.Mathlib.Nat.{le-refl, le-of-lt, lt-of-not-le, le-dest, mul-pos, one-le-pow, pow-zero, le-of-mul-le-mul-right}
+use native.Mathlib.Nat.{le-refl, le-of-lt, lt-of-not-le, le-dest, mul-pos, one-le-pow, le-of-mul-le-mul-right}
 use native.Mathlib.Decide.{decLe}
 use native.Mathlib.Omega.{arith}
 use lib.Dec.{T, ltb, ltb→lt}
 use lib.ListN.{length}
 use lib.Ieee.Fits.{and-l, and-r}
 use Rattle.exact.specs.Polynomial.{value}
-use Rattle.exact.proofs.Power.{pow-one, mul-pow}
-use Rattle.exact.proofs.Polynomial.{value-scale}
+use Rattle.exact.proofs.Power.{mul-pow}
+use Rattle.exact.proofs.Polynomial.{value-scale, value-linear}
 use Rattle.exact.proofs.Forms.{compose, dominated, value-dominated, value-compose, value-denominator, length-compose, length-denominator}
 
 -- ---- many pieces
@@ -71,10 +71,6 @@ inside N a b x d pos less low high =
       at-d = omega (arith, ap (λ (n : ℕ). N * n) eu, ap (λ (n : ℕ). N * n) ev, ap (λ (n : ℕ). n * (N * d)) ew);
     }
 
-linear : (p q u v : ℕ) → value 1 (p ∷ q ∷ []) u v ≡ p * v + q * u
-unfolding value
-linear p q u v = rw (pow-one, pow-zero) (omega arith)
-
 -- a polynomial of degree n as a form in u and v, and its denominator
 unfoldable pub piece : ℕ → ℕ → ℕ → ℕ → List ℕ → List ℕ × List ℕ
 unfolding compose
@@ -84,11 +80,11 @@ module _ {N a b x d : ℕ} (i : Inside N a b x d) (n : ℕ) (cs : List ℕ) wher
   pub value-piece : length cs ≤ suc n → value (n * 1) (piece N a b n cs .0) (i .u) (i .v) ≡ value n cs x d * i .k ^ n
   unfolding piece
   value-piece fits =
-      rw (value-compose (a ∷ b ∷ []) (N ∷ N ∷ []) 1 (le-refl 2) (le-refl 2) n cs (i .u) (i .v) fits, linear, i .at-x, linear, i .at-d) (value-scale n cs x d (i .k) fits)
+      rw (value-compose (a ∷ b ∷ []) (N ∷ N ∷ []) 1 (le-refl 2) (le-refl 2) n cs (i .u) (i .v) fits, value-linear, i .at-x, value-linear, i .at-d) (value-scale n cs x d (i .k) fits)
 
   pub denominator-piece : value (n * 1) (piece N a b n cs .1) (i .u) (i .v) ≡ d ^ n * i .k ^ n
   unfolding piece
-  denominator-piece = rw (value-denominator (a ∷ b ∷ []) (N ∷ N ∷ []) 1 (le-refl 2) (le-refl 2) n cs (i .u) (i .v), linear, i .at-d) (mul-pow d (i .k) n)
+  denominator-piece = rw (value-denominator (a ∷ b ∷ []) (N ∷ N ∷ []) 1 (le-refl 2) (le-refl 2) n cs (i .u) (i .v), value-linear, i .at-d) (mul-pow d (i .k) n)
 
 -- its length, and its denominator's
 pub length-piece : (N a b n : ℕ) (cs : List ℕ) → length cs ≤ suc n → length (piece N a b n cs .0) ≤ suc (n * 1)

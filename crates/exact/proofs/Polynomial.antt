@@ -6,7 +6,7 @@ use native.Mathlib.Nat.{pow-zero, pow-suc, le-of-suc-le-suc}
 use native.Mathlib.Omega.{arith}
 use lib.ListN.{length}
 use Rattle.exact.specs.Polynomial.{value}
-use Rattle.exact.proofs.Power.{mul-pow}
+use Rattle.exact.proofs.Power.{mul-pow, pow-one}
 
 -- x / d written with larger numbers
 pub value-scale : (n : ℕ) (cs : List ℕ) (x d k : ℕ) → length cs ≤ suc n → value n cs (x * k) (d * k) ≡ value n cs x d * k ^ n
@@ -19,7 +19,7 @@ value-scale (suc n) (c ∷ cs) x d k fits = rw (mul-pow, pow-suc k n, value-scal
     through : (D F K : ℕ) → c * (D * (K * k)) + x * k * (F * K) ≡ (c * D + x * F) * (K * k)
     through D F K = omega arith
 
--- a constant
-pub value-constant : (n c x d : ℕ) → value n (c ∷ []) x d ≡ c * d ^ n
+-- a polynomial of degree 1
+pub value-linear : (p q x d : ℕ) → value 1 (p ∷ q ∷ []) x d ≡ p * d + q * x
 unfolding value
-value-constant n c x d = omega arith
+value-linear p q x d = rw (pow-one, pow-zero) (omega arith)
