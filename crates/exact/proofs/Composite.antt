@@ -23,6 +23,7 @@ abbrev pub Ordered : Bool → ℕ → ℕ → Type 0
 Ordered true a b = a ≤ b
 Ordered false a b = b ≤ a
 
+-- the same of coefficients
 unfoldable pub ordered : Bool → List ℕ → List ℕ → Bool
 unfolding dominated
 ordered true f g = dominated f g
@@ -53,11 +54,12 @@ split f m p k pos e =
     (z, omega arith, omega (arith, ap (λ (y : ℕ). y * k) sum))
 
 module _ (up : Bool) (N n : ℕ) (cs ds : List ℕ) (j : ℕ) (plus minus : List ℕ) (B m : ℕ) (us bs : List ℕ) where
-  -- the numerator of t, and us at t, as forms
+  -- the numerator of t, as a form
   unfoldable pub top : ℕ → ℕ → List ℕ
   unfolding piece subtract
   top a b = subtract (piece N a b j plus .0) (piece N a b j minus .0)
 
+  -- us at t, as a form
   unfoldable pub inner : ℕ → ℕ → List ℕ
   unfolding piece compose scale top
   inner a b = compose (top a b) (scale B (piece N a b j plus .1)) m us .0

@@ -1,5 +1,5 @@
 -- Coefficient lists computed with: sum, multiple, product and composition, and the test that one is nowhere above another.
--- A list is a form in u and v, the polynomial at u / v times a power of v, so that a fraction, or an interval u : v, is put for the variable.
+-- A list is also a form in u and v, the polynomial at u / v times a power of v: so a fraction of two forms can be put for the variable, and all stays whole and positive.
 use mathlib.Core.Path.{_≡_, refl, sym, ap}
 use mathlib.Core.Bool.{Bool, true, _&&_}
 use mathlib.Core.List.{List, [], _∷_}
@@ -14,17 +14,20 @@ use Rattle.exact.specs.Polynomial.{value}
 
 -- ---- sums and multiples
 
+-- the sum, of lists of any lengths
 unfoldable pub add : List ℕ → List ℕ → List ℕ
 add [] bs = bs
 add (a ∷ cs) [] = a ∷ cs
 add (a ∷ cs) (b ∷ bs) = (a + b) ∷ add cs bs
 
+-- its value
 pub value-add : (n : ℕ) (cs bs : List ℕ) (x d : ℕ) → value n (add cs bs) x d ≡ value n cs x d + value n bs x d
 unfolding value add
 value-add n [] bs x d = omega arith
 value-add n (a ∷ cs) [] x d = omega arith
 value-add n (a ∷ cs) (b ∷ bs) x d = rw (value-add (pred n) cs bs x d) (omega arith)
 
+-- its length
 pub length-add : (n : ℕ) (cs bs : List ℕ) → length cs ≤ n → length bs ≤ n → length (add cs bs) ≤ n
 unfolding add
 length-add n [] bs h l = l
@@ -32,15 +35,18 @@ length-add n (a ∷ cs) [] h l = h
 length-add zero (a ∷ cs) (b ∷ bs) h l = absurd (omega arith)
 length-add (suc n) (a ∷ cs) (b ∷ bs) h l = suc-le-suc (length-add n cs bs (le-of-suc-le-suc h) (le-of-suc-le-suc l))
 
+-- the multiple by k
 unfoldable pub scale : ℕ → List ℕ → List ℕ
 scale k [] = []
 scale k (a ∷ cs) = (k * a) ∷ scale k cs
 
+-- its value
 pub value-scale-by : (n k : ℕ) (cs : List ℕ) (x d : ℕ) → value n (scale k cs) x d ≡ k * value n cs x d
 unfolding value scale
 value-scale-by n k [] x d = omega arith
 value-scale-by n k (a ∷ cs) x d = rw (value-scale-by (pred n) k cs x d) (omega arith)
 
+-- its length
 pub length-scale : (k : ℕ) (cs : List ℕ) → length (scale k cs) ≡ length cs
 unfolding scale
 length-scale k [] = refl
@@ -74,12 +80,14 @@ subtract [] bs = []
 subtract (c ∷ cs) [] = c ∷ cs
 subtract (c ∷ cs) (b ∷ bs) = (c - b) ∷ subtract cs bs
 
+-- its length
 pub length-subtract : (cs bs : List ℕ) → length (subtract cs bs) ≡ length cs
 unfolding subtract
 length-subtract [] bs = refl
 length-subtract (c ∷ cs) [] = refl
 length-subtract (c ∷ cs) (b ∷ bs) = ap suc (length-subtract cs bs)
 
+-- its value, and the other's, make up the value of cs
 pub value-subtract : (n : ℕ) (cs bs : List ℕ) (x d : ℕ) → T (dominated bs cs) → value n (subtract cs bs) x d + value n bs x d ≡ value n cs x d
 unfolding dominated value subtract
 value-subtract n [] bs x d t = omega (arith, value-dominated n bs [] x d t)
@@ -105,11 +113,13 @@ value-raise k (suc m) (a ∷ b ∷ cs) x d fits =
     through : (K D F : ℕ) → a * (K * D) + x * (K * F) ≡ K * (a * D + x * F)
     through K D F = omega arith
 
+-- the product; the work is least where the shorter list comes first
 unfoldable pub mul : List ℕ → List ℕ → List ℕ
 unfolding add scale
 mul [] bs = []
 mul (a ∷ cs) bs = add (scale a bs) (0 ∷ mul cs bs)
 
+-- its length
 pub length-mul : (n m : ℕ) (cs bs : List ℕ) → length cs ≤ suc n → length bs ≤ suc m → length (mul cs bs) ≤ suc (n + m)
 unfolding mul
 length-mul n m [] bs h l = omega arith
@@ -122,6 +132,7 @@ value-shift : (n : ℕ) (cs : List ℕ) (x d : ℕ) → value (suc n) (0 ∷ cs)
 unfolding value
 value-shift n cs x d = omega arith
 
+-- its value
 pub value-mul : (n m : ℕ) (cs bs : List ℕ) (x d : ℕ) → length cs ≤ suc n → length bs ≤ suc m → value (n + m) (mul cs bs) x d ≡ value n cs x d * value m bs x d
 unfolding mul value
 value-mul n m [] bs x d h l = omega arith
@@ -136,11 +147,12 @@ value-mul (suc n) m (a ∷ b ∷ cs) bs x d h l =
 
 -- ---- composition
 
--- the constant term, and the rest over the variable
+-- the constant term
 unfoldable pub first : List ℕ → ℕ
 first [] = 0
 first (c ∷ cs) = c
 
+-- the rest, over the variable
 unfoldable pub rest : List ℕ → List ℕ
 rest [] = []
 rest (c ∷ cs) = cs
@@ -165,11 +177,13 @@ module _ (X D : List ℕ) (m : ℕ) (fits-X : length X ≤ suc m) (fits-D : leng
   degree : (n : ℕ) → suc n * m ≡ m + n * m
   degree n = omega arith
 
+  -- the denominator's length
   pub length-denominator : (n : ℕ) (cs : List ℕ) → length (compose X D n cs .1) ≤ suc (n * m)
   unfolding compose
   length-denominator zero cs = omega arith
   length-denominator (suc n) cs = rw degree (length-mul m (n * m) D (compose X D n (rest cs) .1) fits-D (length-denominator n (rest cs)))
 
+  -- the denominator's value
   pub value-denominator : (n : ℕ) (cs : List ℕ) (u v : ℕ) → value (n * m) (compose X D n cs .1) u v ≡ value m D u v ^ n
   unfolding compose value
   value-denominator zero cs u v = rw (zero-mul m, pow-zero, pow-zero) (omega arith)
@@ -177,6 +191,7 @@ module _ (X D : List ℕ) (m : ℕ) (fits-X : length X ≤ suc m) (fits-D : leng
       rw (degree, value-mul m (n * m) D (compose X D n (rest cs) .1) u v fits-D (length-denominator n (rest cs)), value-denominator n (rest cs) u v)
       (sym (pow-succ' (value m D u v) n))
 
+  -- the form's length
   pub length-compose : (n : ℕ) (cs : List ℕ) → length cs ≤ suc n → length (compose X D n cs .0) ≤ suc (n * m)
   unfolding compose
   length-compose zero cs fits = omega arith

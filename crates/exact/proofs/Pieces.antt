@@ -57,6 +57,7 @@ pub record Inside (N a b x d : ℕ) : Type 0 where
   pub at-x : a * v + b * u ≡ x * k
   pub at-d : N * v + N * u ≡ d * k
 
+-- every fraction of the piece is such
 pub inside : (N a b x d : ℕ) → 0 < N → a < b → a * d ≤ N * x → N * x ≤ b * d → Inside N a b x d
 inside N a b x d pos less low high =
     let (u, eu) = le-dest low in
@@ -77,20 +78,23 @@ unfolding compose
 piece N a b n cs = compose (a ∷ b ∷ []) (N ∷ N ∷ []) n cs
 
 module _ {N a b x d : ℕ} (i : Inside N a b x d) (n : ℕ) (cs : List ℕ) where
+  -- the form's value
   pub value-piece : length cs ≤ suc n → value (n * 1) (piece N a b n cs .0) (i .u) (i .v) ≡ value n cs x d * i .k ^ n
   unfolding piece
   value-piece fits =
       rw (value-compose (a ∷ b ∷ []) (N ∷ N ∷ []) 1 (le-refl 2) (le-refl 2) n cs (i .u) (i .v) fits, value-linear, i .at-x, value-linear, i .at-d) (value-scale n cs x d (i .k) fits)
 
+  -- the denominator's value
   pub denominator-piece : value (n * 1) (piece N a b n cs .1) (i .u) (i .v) ≡ d ^ n * i .k ^ n
   unfolding piece
   denominator-piece = rw (value-denominator (a ∷ b ∷ []) (N ∷ N ∷ []) 1 (le-refl 2) (le-refl 2) n cs (i .u) (i .v), value-linear, i .at-d) (mul-pow d (i .k) n)
 
--- its length, and its denominator's
+-- the form's length
 pub length-piece : (N a b n : ℕ) (cs : List ℕ) → length cs ≤ suc n → length (piece N a b n cs .0) ≤ suc (n * 1)
 unfolding piece
 length-piece N a b n cs fits = length-compose (a ∷ b ∷ []) (N ∷ N ∷ []) 1 (le-refl 2) (le-refl 2) n cs fits
 
+-- the denominator's length
 pub length-denominator-piece : (N a b n : ℕ) (cs : List ℕ) → length (piece N a b n cs .1) ≤ suc (n * 1)
 unfolding piece
 length-denominator-piece N a b n cs = length-denominator (a ∷ b ∷ []) (N ∷ N ∷ []) 1 (le-refl 2) (le-refl 2) n cs
