@@ -1,0 +1,10 @@
+pub mod Power
+pub mod Polynomial
+pub mod Growth
+pub mod Forms
+pub mod Pieces
+pub mod Composite
+pub mod Enclosure
+pub mod Tight
+pub mod Near
+pub mod Logarithm
