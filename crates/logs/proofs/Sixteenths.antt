@@ -204,9 +204,11 @@ one-of [] i j t h = absurd (omega arith)
 one-of (r ∷ rs) i zero t h = rw add-zero (and-l (passes i r) (passAll (suc i) rs) t)
 one-of (r ∷ rs) i (suc j) t h = rw (add-suc, ← suc-add) (one-of rs (suc i) j (and-r (passes i r) (passAll (suc i) rs) t) (le-of-suc-le-suc h))
 
+-- computed
 rows-pass : T (passAll 0 rows)
 unfolding passAll
 rows-pass = tt
 
-row-passes : (i : ℕ) → i < 16 → T (passes i (row i))
+-- every row passes
+pub row-passes : (i : ℕ) → i < 16 → T (passes i (row i))
 row-passes i h = rw zero-add at (one-of rows 0 i rows-pass h)
