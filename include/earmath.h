@@ -53,6 +53,18 @@ uint32_t ear_sqrt(float x, float *out);
  */
 uint32_t ear_rsqrt(float x, float *out);
 
+/*
+ * The logarithm to base two.
+ *
+ * Accepts: every finite x >= 2^-126, the normal floats above zero.
+ * Result:  within 2^-21 * max(1, |log2(x)|) of the real logarithm. Exact at
+ *          powers of two; of 1 it is +0.
+ * Order:   never falls as x grows.
+ * Refuses: NaN, both infinities, subnormals, both zeros and every x < 0 with
+ *          EAR_OUT_OF_RANGE; *out stays as it was.
+ */
+uint32_t ear_log2(float x, float *out);
+
 #ifdef __cplusplus
 }
 #endif

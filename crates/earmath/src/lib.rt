@@ -2,6 +2,7 @@
 
 ghost use Rattle.roots.specs.Sqrt.{Sqrt};
 ghost use Rattle.roots.specs.Rsqrt.{Rsqrt};
+ghost use Rattle.logs.specs.Log2.{Log2};
 
 // The square root of every bit pattern: the nearest float, or code 1 and nothing written.
 #[no_mangle]
@@ -17,4 +18,12 @@ pub extern "C" fn ear_rsqrt(x: f32, out: &mut f32) -> u32
     ensures { λ code. ⌜ Rsqrt x code (now (out .entry)) (now (out .exit)) ⌝ }
 {
     roots::rsqrt(x, out)
+}
+
+// The logarithm to base two of every bit pattern: within 2 ^ -21 * max(1, |log2 x|), or code 1 and nothing written.
+#[no_mangle]
+pub extern "C" fn ear_log2(x: f32, out: &mut f32) -> u32
+    ensures { λ code. ⌜ Log2 x code (now (out .entry)) (now (out .exit)) ⌝ }
+{
+    logs::log2(x, out)
 }

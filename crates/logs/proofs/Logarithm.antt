@@ -2,14 +2,14 @@
 use mathlib.Core.Path.{_≡_, refl, sym, ap, _∙_, subst}
 use mathlib.Core.Logic.{_⊎_, inl, inr}
 use mathlib.Core.Bool.{Bool, true, false, cond}
-use Prim.Native.Nat.{ℕ, _+_, _-_, _*_, _^_, _≤_, _<_}
-use native.Mathlib.Nat.{le-of-eq, lt-of-lt-of-le, add-le-add, zero-add, eq-zero-or-pos}
+use Prim.Native.Nat.{ℕ, _+_, _-_, _*_, _^_, _<_}
+use native.Mathlib.Nat.{le-of-eq, lt-of-lt-of-le, add-le-add, eq-zero-or-pos}
 use native.Mathlib.Omega.{arith}
-use lib.Dec.{lit<, ltb}
+use lib.Dec.{lit<}
 use lib.Pow.{pow-pos}
 use borrow.Author.Tests.{lt-ltb, le-ltb}
 use lib.Ieee.{Float, binary32, ofBits}
-use Rattle.units.specs.Units.{mag, negative, P, N, Number, Le}
+use Rattle.units.specs.Units.{mag, P, N, Number, Le}
 use Rattle.units.proofs.Naturals.{le-or-lt}
 use Rattle.units.proofs.Signs.{plus-of, minus-of}
 use Rattle.units.proofs.Bits.{Is, put-positive}

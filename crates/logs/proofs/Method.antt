@@ -1,12 +1,12 @@
 -- Method: a polynomial times the distance to a power of two, evaluated by Horner's rule with floors, against the logarithm: a computed test shows that the two
 -- differ by at most 5 parts in 2 ^ 32 on a sixteenth of an octave.
-use mathlib.Core.Path.{_≡_, refl, sym, ap, _∙_}
+use mathlib.Core.Path.{_≡_, sym, ap}
 use mathlib.Core.Bool.{Bool, true, false, _&&_}
 use mathlib.Core.List.{List, [], _∷_}
-use Prim.Native.Nat.{ℕ, suc, _+_, _-_, _*_, _^_, _≤_, _<_}
+use Prim.Native.Nat.{ℕ, _+_, _-_, _*_, _^_, _≤_, _<_}
 use native.Mathlib.Nat.{le-trans, le-of-eq, mul-le-mul-left, mul-le-mul-right, one-le-mul, one-le-pow, pow-suc}
 use native.Mathlib.Omega.{arith}
-use lib.Dec.{T, lit<, lit≤}
+use lib.Dec.{T, lit<}
 use lib.ListN.{length}
 use lib.Ieee.Fits.{and-l, and-r}
 use Rattle.exact.specs.Power.{AtMost, AtLeast}
@@ -16,7 +16,7 @@ use Rattle.exact.proofs.Logarithm.{exponent, exponent-least, exponent-most}
 use Rattle.exact.proofs.Pieces.{end}
 use Rattle.exact.proofs.Tight.{upper, lower, tight-above, tight-below}
 use Rattle.fixed.specs.Horner.{horner}
-use Rattle.fixed.proofs.Horner.{horner-below, horner-close, horner-first}
+use Rattle.fixed.proofs.Horner.{horner-close, horner-first}
 
 -- F steps of 2 ^ -54 are log2 (n / d), within 5 parts in 2 ^ 32 of F
 pub record Close (n d F : ℕ) : Type 0 where

@@ -1,23 +1,23 @@
 -- Order: the logarithm in fixed point grows with x. Two floats are at least one part in 2 ^ 24 apart, and so their logarithms 2 ^ 30 steps, while the error is 3 * 2 ^ 22.
 use mathlib.Core.Path.{_≡_, refl, sym, ap, _∙_, subst}
 use mathlib.Core.Logic.{inl, inr}
-use Prim.Native.Nat.{ℕ, _+_, _-_, _*_, _/_, _^_, _≤_, _<_}
-use native.Mathlib.Nat.{le-trans, le-of-eq, le-of-lt, eq-or-lt-of-le, lt-of-lt-of-le, mul-comm, mul-le-mul-left, mul-le-mul-right, le-of-mul-le-mul-right, mul-right-comm, mul-assoc, one-le-pow, mul-pos}
+use Prim.Native.Nat.{ℕ, _+_, _*_, _^_, _≤_, _<_}
+use native.Mathlib.Nat.{le-of-eq, le-of-lt, eq-or-lt-of-le, lt-of-lt-of-le, mul-le-mul-right, le-of-mul-le-mul-right, one-le-pow, mul-pos}
 use native.Mathlib.Omega.{arith}
 use lib.Dec.{lit<, lit≤}
-use lib.Pow.{pow-add, pow-pos}
-use lib.Ieee.{Float, binary32, toBits, size}
+use lib.Pow.{pow-add}
+use lib.Ieee.{Float, binary32, toBits}
 use Rattle.exact.specs.Power.{AtMost, AtLeast}
 use Rattle.exact.specs.Polynomial.{value}
-use Rattle.exact.proofs.Power.{most-of-larger, least-of-smaller, least-of-more, least-mul, most-of-less}
+use Rattle.exact.proofs.Power.{most-of-larger, least-of-smaller, least-of-more, least-mul}
 use Rattle.exact.proofs.Tight.{upper, tight-above}
-use Rattle.units.specs.Units.{mag, N, P, Le}
+use Rattle.units.specs.Units.{mag, Le}
 use Rattle.units.proofs.Naturals.{pow-back}
-use Rattle.units.proofs.Signs.{size-sum, sign-plus}
+use Rattle.units.proofs.Signs.{size-sum}
 use Rattle.units.proofs.Gaps.{next-above}
 use Rattle.units.proofs.Bits.{pattern, pattern-normal}
 use Rattle.logs.specs.Fixed.{Accepts, fixedBits, fixedOf, fixedError}
-use Rattle.logs.proofs.Reduction.{Read, reading, positive}
+use Rattle.logs.proofs.Reduction.{reading, positive}
 
 -- ---- exponents are in the order of their powers
 -- 2 ^ e ≤ n / d ≤ 2 ^ e' gives e ≤ e', over one denominator
@@ -58,13 +58,20 @@ module _ (x x′ : Float) (a : Accepts x) (a′ : Accepts x′) where
       through m u X s h = let k : m * u ≤ 2 ^ 24 * u = mul-le-mul-right u (le-of-lt s) in omega arith
 
 -- ---- the absolute error
+module _ (w F : ℕ) (small : 5 * F ≤ 3 * 2 ^ 54) where
+  error-least : w * 2 ^ 86 + 5 * F * 2 ^ 54 ≤ 2 ^ 32 * w * 2 ^ 54 + fixedError * 2 ^ 86
+  error-least = omega arith
+
+  error-most : (2 ^ 32 * w + 5 * F) * 2 ^ 54 + 0 * 2 ^ 86 ≤ (w + fixedError) * 2 ^ 86 + 0 * 2 ^ 54
+  error-most = omega arith
+
 -- from below
 pub fixed-least : (x : Float) → Accepts x → AtLeast (mag x) (2 ^ 22) (fixedOf x) fixedError (2 ^ 54)
-fixed-least x a = let r = reading x a in least-of-smaller (lit< tt) (omega (arith, r .small)) (r .least)
+fixed-least x a = let r = reading x a in least-of-smaller (lit< tt) (error-least (fixedOf x) (r .F) (r .small)) (r .least)
 
 -- from above
 pub fixed-most : (x : Float) → Accepts x → AtMost (mag x) (2 ^ 22) (fixedOf x + fixedError) 0 (2 ^ 54)
-fixed-most x a = let r = reading x a in most-of-larger (lit< tt) (omega (arith, r .small)) (r .most)
+fixed-most x a = let r = reading x a in most-of-larger (lit< tt) (error-most (fixedOf x) (r .F) (r .small)) (r .most)
 
 -- ---- the order
 module _ (x x′ : Float) (a : Accepts x) (a′ : Accepts x′) where

@@ -2,11 +2,10 @@
 use mathlib.Core.Path.{_≡_, refl, _∙_}
 use mathlib.Core.Logic.{inl, inr}
 use mathlib.Core.Bool.{true, false}
-use Prim.Native.Nat.{ℕ, _*_, _^_}
+use Prim.Native.Nat.{_*_, _^_}
 use native.Mathlib.Omega.{arith}
 use lib.Dec.{T}
 use lib.Ieee.{Float, binary32, fits, ofBits, le}
-use lib.Ieee.Scale.{finite}
 use Rattle.units.specs.Units.{P, N, Number}
 use Rattle.units.proofs.Signs.{sides, size-sum, plus-of, minus-of}
 use Rattle.units.proofs.Bits.{Is, put-positive}

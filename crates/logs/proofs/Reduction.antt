@@ -1,9 +1,9 @@
 -- Reduction: the exponent of the nearer power of two, and the logarithm of what is left, are the logarithm of x in fixed point: w steps of 2 ^ -54 are log2 x + 127
 -- within 5 parts in 2 ^ 32 of the distance F between w and that exponent.
-use mathlib.Core.Path.{_≡_, refl, sym, ap, _∙_, subst}
+use mathlib.Core.Path.{_≡_, sym, ap, _∙_}
 use mathlib.Core.Logic.{_⊎_, inl, inr}
 use Prim.Native.Nat.{ℕ, suc, _+_, _-_, _*_, _/_, _%_, _^_, _≤_, _<_}
-use native.Mathlib.Nat.{le-trans, le-of-eq, lt-of-lt-of-le, lt-of-le-of-lt, add-mul, mul-one, mul-le-mul, mul-le-mul-right, mul-pos, pow-suc}
+use native.Mathlib.Nat.{le-trans, le-of-eq, lt-of-lt-of-le, lt-of-le-of-lt, add-mul, mul-le-mul-right, mul-pos, pow-suc}
 use native.Mathlib.Omega.{arith}
 use lib.Dec.{lit<}
 use lib.Pow.{pow-add, pow-pos}
@@ -102,38 +102,39 @@ module _ (b : ℕ) where
   unfolding slope
   sixteenth-below h = above-cut v y (omega arith) i (row i) (row-passes i (omega arith)) h (omega arith) (omega arith)
 
+  -- the cut is where the rows have it
+  nearer-above : i < 7 → nearer b ≡ b / 8388608
+  unfolding nearer
+  nearer-above h = omega arith
+
+  nearer-below : 7 ≤ i → nearer b ≡ suc (b / 8388608)
+  unfolding nearer
+  nearer-below h = omega arith
+
+  -- b p against k 2 ^ 23 p
+  product-above : i < 7 → b * slope b ≡ nearer b * 8388608 * slope b + above * slope b
+  product-above h = let k = nearer-above h in let e : b ≡ nearer b * 8388608 + above = omega arith in ap (λ (c : ℕ). c * slope b) e ∙ add-mul (nearer b * 8388608) above (slope b)
+
+  product-below : 7 ≤ i → b * slope b + below * slope b ≡ nearer b * 8388608 * slope b
+  product-below h = let k = nearer-below h in let e : b + below ≡ nearer b * 8388608 = omega arith in sym (add-mul b below (slope b)) ∙ ap (λ (c : ℕ). c * slope b) e
+
   fixed-above : i < 7 → fixedBits b ≡ b / 8388608 * 2 ^ 54 + above * slope b
-  unfolding fixedBits nearer
-  fixed-above h = through (b / 8388608) ((b + 4718592) / 8388608) above (slope b) (omega arith) (omega arith)
-    where
-      through : (E k n p : ℕ) → k ≡ E → b ≡ E * 8388608 + n → k * 18014398509481984 + b * p - k * 8388608 * p ≡ E * 2 ^ 54 + n * p
-      through E k n p e f = rw (e, f) (omega arith)
+  unfolding fixedBits
+  fixed-above h = omega (arith, nearer-above h, product-above h)
 
   fixed-below : 7 ≤ i → fixedBits b + below * slope b ≡ suc (b / 8388608) * 2 ^ 54
-  unfolding fixedBits nearer
-  fixed-below h = through (b / 8388608) ((b + 4718592) / 8388608) below (slope b) (sixteenth-below h .small) (omega arith) (omega arith)
-    where
-      through : (E k n p : ℕ) → 5 * (n * p) ≤ 3 * 2 ^ 54 → k ≡ suc E → b + n ≡ suc E * 8388608 → k * 18014398509481984 + b * p - k * 8388608 * p + n * p ≡ suc E * 2 ^ 54
-      through E k n p s e f =
-          let g : b * p + n * p ≡ suc E * 8388608 * p = sym (add-mul b n p) ∙ ap (λ (c : ℕ). c * p) f in
-          rw e (omega arith)
+  unfolding fixedBits
+  fixed-below h = omega (arith, nearer-below h, product-below h, sixteenth-below h .small)
 
   -- what the program multiplies and takes away fits
   pub slope-fits : slope b < 2 ^ 32
   slope-fits = elim (le-or-lt 7 i) [ inl h ↦ sixteenth-below h .digits | inr h ↦ sixteenth-above h .digits ]
 
   pub no-borrow : nearer b * 8388608 * slope b ≤ nearer b * 18014398509481984 + b * slope b
-  unfolding nearer
   no-borrow = elim (le-or-lt 7 i) [
-    | inl h ↦ over ((b + 4718592) / 8388608) below (slope b) (sixteenth-below h .small) (omega arith) (omega arith)
-    | inr h ↦ under ((b + 4718592) / 8388608) above (slope b) (omega arith)
+    | inl h ↦ omega (arith, nearer-below h, product-below h, sixteenth-below h .small)
+    | inr h ↦ omega (arith, product-above h)
   ]
-    where
-      over : (k n p : ℕ) → 5 * (n * p) ≤ 3 * 2 ^ 54 → 1 ≤ k → b + n ≡ k * 8388608 → k * 8388608 * p ≤ k * 18014398509481984 + b * p
-      over k n p s h e = omega (arith, ap (λ (c : ℕ). c * p) e)
-
-      under : (k n p : ℕ) → b ≡ k * 8388608 + n → k * 8388608 * p ≤ k * 18014398509481984 + b * p
-      under k n p e = omega (arith, ap (λ (c : ℕ). c * p) e)
 
   -- a number of X units with this pattern is read
   read-bits : (X : ℕ) → X * 2 ^ 24 ≡ (b % 8388608 + 8388608) * 2 ^ (b / 8388608 + 23) → b / 8388608 ≤ 254 → Read X (fixedBits b)

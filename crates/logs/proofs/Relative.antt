@@ -1,10 +1,10 @@
 -- The relative error, of either sign: of a logarithm in fixed point at the distance A above log2 1 or B below it (one of the two is 0), and of the float that it is rounded to.
-use mathlib.Core.Path.{_≡_, refl, sym, ap, _∙_}
+use mathlib.Core.Path.{_≡_, refl, sym, ap}
 use mathlib.Core.Logic.{_⊎_, inl, inr}
 use Prim.Native.Nat.{ℕ, _+_, _-_, _*_, _^_, _≤_, _<_}
 use native.Mathlib.Nat.{le-trans, le-of-eq, add-le-add, mul-le-mul-left, mul-le-mul-right, mul-pos, mul-one, zero-mul}
 use native.Mathlib.Omega.{arith}
-use lib.Dec.{lit<, lit≤}
+use lib.Dec.{lit<}
 use Rattle.exact.specs.Power.{AtMost, AtLeast}
 use Rattle.exact.proofs.Power.{most-of-larger, least-of-smaller, most-of-less, least-of-more, most-shift, least-shift}
 use Rattle.units.proofs.Naturals.{le-or-lt}

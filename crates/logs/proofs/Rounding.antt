@@ -1,16 +1,16 @@
 -- Rounding: n steps of 2 ^ -54, to 24 digits. The float put together is within one part in 2 ^ 24 of n, has its order, and is n where n is a whole number.
-use mathlib.Core.Path.{_≡_, refl, sym, ap, _∙_, subst}
-use mathlib.Core.Logic.{_⊎_, inl, inr}
-use mathlib.Core.Bool.{Bool, true, false, not, cond}
+use mathlib.Core.Path.{_≡_, sym, ap, _∙_, subst}
+use mathlib.Core.Logic.{inl, inr}
+use mathlib.Core.Bool.{Bool, false, not, cond}
 use Prim.Native.Nat.{ℕ, suc, _+_, _-_, _*_, _/_, _^_, _≤_, _<_, zero-le}
-use native.Mathlib.Nat.{le-trans, le-of-eq, le-antisymm, lt-of-le-of-lt, lt-of-lt-of-le, eq-or-lt-of-le, eq-zero-or-pos, mul-comm, mul-assoc, mul-le-mul, mul-le-mul-left, mul-le-mul-right, mul-lt-mul-of-pos-right, not-le-of-lt, pow-suc, zero-mul}
+use native.Mathlib.Nat.{le-trans, le-of-eq, lt-of-lt-of-le, eq-or-lt-of-le, eq-zero-or-pos, mul-assoc, mul-le-mul, mul-le-mul-right, mul-lt-mul-of-pos-right, not-le-of-lt, pow-suc, zero-mul}
 use native.Mathlib.Omega.{arith}
 use lib.Pow.{pow-add, pow-pos, pow-mono}
 use lib.Count.{leadingZeros, leading-top}
 use lib.Dec.{T, eqb, ltb}
 use borrow.Author.Tests.{eq-eqb, ne-eqb, lt-ltb, le-ltb}
-use lib.Ieee.{Float, binary32, ofBits, nanBits}
-use Rattle.units.proofs.Naturals.{le-or-lt, pow-back-lt}
+use lib.Ieee.{binary32, ofBits, nanBits}
+use Rattle.units.proofs.Naturals.{le-or-lt}
 use Rattle.units.proofs.Round.{step}
 use Rattle.units.proofs.Bits.{Is, signBit, put, no-nan}
 use Rattle.logs.specs.Log2.{atOne, signOf, distanceOf, digitsOf, nearestBits, roundedBits}

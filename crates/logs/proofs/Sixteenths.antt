@@ -1,6 +1,6 @@
 -- The sixteenths of an octave: for a significand m below the cut, 23 / 16, the row's polynomial gives log2 (m / 2 ^ 23), from the cut on log2 (2 ^ 24 / m), each within
 -- 5 parts in 2 ^ 32. One test over all rows is computed.
-use mathlib.Core.Path.{_≡_, refl, sym, ap, _∙_}
+use mathlib.Core.Path.{_≡_, refl, ap}
 use mathlib.Core.Bool.{Bool, true, false, _&&_, cond}
 use mathlib.Core.List.{List, [], _∷_}
 use Prim.Native.Nat.{ℕ, zero, suc, _+_, _-_, _*_, _^_, _≤_, _<_}
