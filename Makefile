@@ -1,6 +1,6 @@
 # make         proves and builds build/libearmath.a, then compiles and runs the example
 # make test    the gate, .ci/run: all proofs, and the tests of the archive from C
-# make every   all 2^32 patterns through each function of one argument (some minutes)
+# make every   all 2^32 patterns through each function of one argument (some minutes); ONLY=ear_exp2 for one
 # make bench   speed beside newlib's and glibc's functions
 # make times   seconds and peak memory of each crate's check
 
@@ -29,7 +29,7 @@ test:
 tests: $(TESTS:%=build/tests/%)
 
 every: build/tests/every
-	build/tests/every
+	build/tests/every $(ONLY)
 
 bench: $(LIBRARY)
 	bench/run
