@@ -57,8 +57,7 @@ uint32_t ear_rsqrt(float x, float *out);
  * 2 to the power x.
  *
  * Accepts: every x with -126 <= x <= 127.
- * Result:  within 515 * 2^-33 of the real number 2^x, relatively: that is
- *          2^-23.99, or 0.503 of the distance of neighbouring floats at most.
+ * Result:  within 515 * 2^-33 (2^-23.99) of the real number 2^x, relatively.
  *          Exactly 2^x where x is a whole number. Always a normal float.
  * Order:   never falls as x grows.
  * Refuses: NaN, both infinities, every x < -126 and every x > 127 with

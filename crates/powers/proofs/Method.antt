@@ -1,8 +1,8 @@
 -- The polynomial against 2 ^ t: every law of `raised` that the other rooms cite. Assumes nothing.
-use mathlib.Core.List.{List, [], _∷_}
+use mathlib.Core.List.{List, _∷_}
 use mathlib.Core.Path.{_≡_, refl}
 use Prim.Native.Nat.{ℕ, _+_, _*_, _/_, _^_, _≤_, _<_}
-use native.Mathlib.Nat.{le-trans, le-of-eq, mul-le-mul-left, mul-le-mul-right}
+use native.Mathlib.Nat.{le-trans, mul-le-mul-right}
 use native.Mathlib.Omega.{arith}
 use lib.Dec.{lit<, lit≤}
 use Rattle.exact.specs.Power.{AtMost, AtLeast}
@@ -19,14 +19,14 @@ use Rattle.powers.specs.Raised.{coefficients, raised}
 abbrev pub D : ℕ
 D = 2 ^ 32
 
--- the polynomial itself is within 3 / 5 of a unit of 2 ^ t, relatively
-near-above : (p q : ℕ) → 0 < q → p ≤ q → AtLeast ((5 * D + 3) * value 7 coefficients p q) (5 * D * (D * q ^ 7)) p 0 q
+-- the polynomial itself is within half a unit of 2 ^ t, relatively
+near-above : (p q : ℕ) → 0 < q → p ≤ q → AtLeast ((2 * D + 1) * value 7 coefficients p q) (2 * D * (D * q ^ 7)) p 0 q
 unfolding coefficients upper high-enough knots end
-near-above p q pos small = near-least 7 5 coefficients D (5 * D + 3) (5 * D) upper (2 ^ 48) 8 (knots 1 8 0) (lit< tt) refl (lit≤ tt) p q pos small tight-above tt
+near-above p q pos small = near-least 7 5 coefficients D (2 * D + 1) (2 * D) upper (2 ^ 48) 4 (knots 1 4 0) (lit< tt) refl (lit≤ tt) p q pos small tight-above tt
 
-near-below : (p q : ℕ) → 0 < q → p ≤ q → AtMost (5 * D * value 7 coefficients p q) ((5 * D + 3) * (D * q ^ 7)) p 0 q
+near-below : (p q : ℕ) → 0 < q → p ≤ q → AtMost (2 * D * value 7 coefficients p q) ((2 * D + 1) * (D * q ^ 7)) p 0 q
 unfolding coefficients lower low-enough knots end
-near-below p q pos small = near-most 7 5 coefficients D (5 * D + 3) (5 * D) lower (2 ^ 48) 8 (knots 1 8 0) (lit< tt) refl (lit≤ tt) p q pos small tight-below tt
+near-below p q pos small = near-most 7 5 coefficients D (2 * D + 1) (2 * D) lower (2 ^ 48) 4 (knots 1 4 0) (lit< tt) refl (lit≤ tt) p q pos small tight-below tt
 
 -- ---- the floors
 
@@ -38,7 +38,7 @@ below f = horner-below D f 7 coefficients (lit≤ tt)
 -- the polynomial is more by a unit at most, and six more in proportion to f
 above : (f : ℕ) → f ≤ D → value 7 coefficients f D ≤ (raised f + 1) * D ^ 7 + 6 * f * D ^ 6
 unfolding raised coefficients
-above f small = horner-close D (lit< tt) f small 6 D 0xb17217f9 _ (lit≤ tt)
+above f small = horner-close D (lit< tt) f small 6 D _ _ (lit≤ tt)
 
 -- ---- the laws that the other rooms cite
 
@@ -67,22 +67,22 @@ rises c cs f l = omega (arith, half (c + horner D cs f * f / D) (omega arith))
 -- it rises by half of f at least
 pub raised-rises : (f : ℕ) → 2 * D + f ≤ 2 * raised f + 1
 unfolding raised coefficients
-raised-rises f = rises 0xb17217f9 _ f (lit≤ tt)
+raised-rises f = rises _ _ f (lit≤ tt)
 
--- raised f / D ≤ (1 + 3 / (5 D)) 2 ^ (f / D)
-pub raised-most : (f : ℕ) → f ≤ D → AtMost (5 * D * raised f) ((5 * D + 3) * D) f 0 D
+-- raised f / D ≤ (1 + 1 / (2 D)) 2 ^ (f / D)
+pub raised-most : (f : ℕ) → f ≤ D → AtMost (2 * D * raised f) ((2 * D + 1) * D) f 0 D
 raised-most f small = most-of-less (lit< tt) (through D (D ^ 7) (raised f) (value 7 coefficients f D) (below f)) (near-below f D (lit< tt) small)
   where
-    through : (d E r v : ℕ) → r * E ≤ v → 5 * d * r * ((5 * d + 3) * (d * E)) ≤ 5 * d * v * ((5 * d + 3) * d)
-    through d E r v h = omega (arith, mul-le-mul-right (5 * d * ((5 * d + 3) * d)) h)
+    through : (d E r v : ℕ) → r * E ≤ v → 2 * d * r * ((2 * d + 1) * (d * E)) ≤ 2 * d * v * ((2 * d + 1) * d)
+    through d E r v h = omega (arith, mul-le-mul-right (2 * d * ((2 * d + 1) * d)) h)
 
--- 2 ^ (f / D) ≤ (1 + 3 / (5 D)) (raised f + 1 + 6 f / D) / D
-pub raised-least : (f : ℕ) → f ≤ D → AtLeast ((5 * D + 3) * ((raised f + 1) * D + 6 * f)) (5 * D * (D * D)) f 0 D
+-- 2 ^ (f / D) ≤ (1 + 1 / (2 D)) (raised f + 1 + 6 f / D) / D
+pub raised-least : (f : ℕ) → f ≤ D → AtLeast ((2 * D + 1) * ((raised f + 1) * D + 6 * f)) (2 * D * (D * D)) f 0 D
 raised-least f small =
     least-of-more (least-pos (lit< tt) (lit< tt) near) (through D (D ^ 6) (raised f) (value 7 coefficients f D) (above f small)) near
   where
-    near : AtLeast ((5 * D + 3) * value 7 coefficients f D) (5 * D * (D * D ^ 7)) f 0 D
+    near : AtLeast ((2 * D + 1) * value 7 coefficients f D) (2 * D * (D * D ^ 7)) f 0 D
     near = near-above f D (lit< tt) small
 
-    through : (d E r v : ℕ) → v ≤ (r + 1) * (E * d) + 6 * f * E → (5 * d + 3) * v * (5 * d * (d * d)) ≤ (5 * d + 3) * ((r + 1) * d + 6 * f) * (5 * d * (d * (E * d)))
-    through d E r v h = omega (arith, mul-le-mul-right ((5 * d + 3) * (5 * d * (d * d))) h)
+    through : (d E r v : ℕ) → v ≤ (r + 1) * (E * d) + 6 * f * E → (2 * d + 1) * v * (2 * d * (d * d)) ≤ (2 * d + 1) * ((r + 1) * d + 6 * f) * (2 * d * (d * (E * d)))
+    through d E r v h = omega (arith, mul-le-mul-right ((2 * d + 1) * (2 * d * (d * d))) h)

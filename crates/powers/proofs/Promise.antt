@@ -1,8 +1,8 @@
 -- The promise of 2 ^ x, put together from the rooms: Method and Rounding (the fraction), Reduction (the argument), Order (the pieces). Assumes nothing.
 use mathlib.Core.Path.{_≡_, sym, ap, subst, _∙_}
 use mathlib.Core.Bool.{false}
-use Prim.Native.Nat.{ℕ, _+_, _-_, _*_, _/_, _%_, _^_, _≤_}
-use native.Mathlib.Nat.{le-trans, mul-le-mul-right, le-mul-of-pos-right}
+use Prim.Native.Nat.{ℕ, _+_, _-_, _*_, _%_, _^_, _≤_, _<_}
+use native.Mathlib.Nat.{le-trans, one-le-mul, mul-sub, mul-le-mul-right, le-mul-of-pos-right}
 use native.Mathlib.Omega.{arith}
 use lib.Dec.{lit<, lit≤}
 use lib.Pow.{pow-add, pow-pos}
@@ -49,9 +49,9 @@ module _ (x : Float) (a : Accepts x) where
   fraction = omega arith
 
   within-most : AtMost (exp2Unit * P (exp2Of x)) ((exp2Unit + exp2Error) * 2 ^ 149) (P x) (N x) (2 ^ 149)
-  within-most = rw exp2-units (most-of-less (lit< tt) (through exp2Unit _ (5 * D * D) (10 * D) ((exp2Unit + exp2Error) * 2 ^ 149) S (2 ^ g) (lit≤ tt)) whole)
+  within-most = rw exp2-units (most-of-less (lit< tt) (through exp2Unit _ (2 * D * D) (10 * D) ((exp2Unit + exp2Error) * 2 ^ 149) S (2 ^ g) (lit≤ tt)) whole)
     where
-      whole : AtMost (5 * D * D * (512 * S) * 2 ^ g * (10 * D)) ((5 * D + 3) * (D + 256) * D * 2 ^ 126 * (10 * D + 7)) (P x) (N x) (2 ^ 149)
+      whole : AtMost (2 * D * D * (512 * S) * 2 ^ g * (10 * D)) ((2 * D + 1) * (D + 256) * D * 2 ^ 126 * (10 * D + 7)) (P x) (N x) (2 ^ 149)
       whole = most-uncut x a (rw parts at (most-shift g 126 (digits-most f fraction)))
 
       through : (b d n t z s G : ℕ) → b * d ≤ n * 512 * t * z → b * (s * G) * d ≤ n * (512 * s) * G * t * z
@@ -61,9 +61,9 @@ module _ (x : Float) (a : Accepts x) where
   within-least =
       rw exp2-units
       (least-of-more (least-pos (lit< tt) (lit< tt) whole)
-      (through exp2Unit _ ((5 * D + 3) * (10 * D + 2561)) (10 * D + 7) ((exp2Unit - exp2Error) * 2 ^ 149) S (2 ^ g) (lit≤ tt)) whole)
+      (through exp2Unit _ ((2 * D + 1) * (10 * D + 2561)) (10 * D + 7) ((exp2Unit - exp2Error) * 2 ^ 149) S (2 ^ g) (lit≤ tt)) whole)
     where
-      whole : AtLeast ((5 * D + 3) * (10 * D + 2561) * (512 * S) * 2 ^ g * (10 * D + 7)) (5 * D * (10 * D * D) * 2 ^ 126 * (10 * D)) (P x) (N x) (2 ^ 149)
+      whole : AtLeast ((2 * D + 1) * (10 * D + 2561) * (512 * S) * 2 ^ g * (10 * D + 7)) (2 * D * (10 * D * D) * 2 ^ 126 * (10 * D)) (P x) (N x) (2 ^ 149)
       whole = least-uncut x a (rw parts at (least-shift g 126 (digits-least f fraction)))
 
       through : (b d n t z s G : ℕ) → n * 512 * t * z ≤ b * d → n * (512 * s) * G * t * z ≤ b * (s * G) * d
@@ -98,8 +98,32 @@ exp2-order x a x′ a′ l =
     let n′ = minus-of (exp2Of x′) (exp2-is x′ a′ .sign) in
     omega arith
 
+-- ---- weaker bounds
+
+-- what is within a / b of 2 ^ x is within every larger a′ / b′ of it
+pub weaker : {a b a′ b′ : ℕ} {x r : Float} → a < b → a * b′ ≤ a′ * b → Within a b x r → Within a′ b′ x r
+weaker {a} {b} {a′} {b′} {x} {r} less wider w = record {
+  plus = w .plus;
+  at-most = most-of-less (one-le-mul (omega arith) (pow-pos 149)) (more (P r) (2 ^ 149)) (w .at-most);
+  at-least = least-of-more (least-pos (one-le-mul (omega arith) (pow-pos 149)) (pow-pos 149) (w .at-least)) (fewer (P r) (2 ^ 149)) (w .at-least);
+}
+  where
+    more : (p q : ℕ) → b′ * p * ((b + a) * q) ≤ b * p * ((b′ + a′) * q)
+    more p q = omega (arith, mul-le-mul-right (p * q) wider)
+
+    fewer : (p q : ℕ) → b * p * ((b′ - a′) * q) ≤ b′ * p * ((b - a) * q)
+    fewer p q = through (b′ - a′) (b - a) (rw (mul-sub b b′ a′, mul-sub b′ b a) (omega arith))
+      where
+        through : (c d : ℕ) → b * c ≤ b′ * d → b * p * (c * q) ≤ b′ * p * (d * q)
+        through c d h = omega (arith, mul-le-mul-right (p * q) h)
+
+-- so the result is within 2 ^ -22, which document 01 asks for
+pub within-document-01 : {x r : Float} → Within exp2Error exp2Unit x r → Within 1 (2 ^ 22) x r
+within-document-01 = weaker (lit< tt) (lit≤ tt)
+
 -- ---- the whole promise, of an accepted x and of any other
 
+-- code 0 and the value
 pub promised : (x before after : Float) → Accepts x → after ≡ exp2Of x → Exp2 x 0 before after
 promised x before after a e = record {
   answers = given exp2Of x before after a e (subst Number (sym e) (exp2-is x a .number));
@@ -109,6 +133,7 @@ promised x before after a e = record {
   order = λ h x′ a′ l. subst (λ (r : Float). Le (exp2Of x′) r) (sym e) (exp2-order x a x′ a′ l);
 }
 
+-- code 1 and nothing written
 pub refused : (x before : Float) → ¬ Accepts x → Exp2 x 1 before before
 refused x before n = record {
   answers = declined exp2Of x before n;

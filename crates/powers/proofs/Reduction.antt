@@ -1,12 +1,12 @@
 -- The argument: x + 126 cut to a whole number of 2 ^ -32, which loses less than one of them and so less than 7 / 10 of 2 ^ -32, relatively, of 2 ^ x.
 -- Assumes nothing.
-use mathlib.Core.Path.{_≡_, sym, ap, _∙_}
+use mathlib.Core.Path.{_≡_, ap}
 use mathlib.Core.Logic.{_⊎_, inl, inr}
 use Prim.Native.Nat.{ℕ, _+_, _-_, _*_, _/_, _^_, _≤_, _<_}
 use native.Mathlib.Nat.{le-trans, mul-le-mul-right, le-of-mul-le-mul-right, div-mul-le-self, lt-div-mul-add, add-mul-div-right}
 use native.Mathlib.Omega.{arith}
 use lib.Dec.{lit<, lit≤}
-use lib.Pow.{pow-add, pow-pos}
+use lib.Pow.{pow-pos}
 use lib.Ieee.{Float}
 use Rattle.units.specs.Units.{mag, P, N, Le}
 use Rattle.units.proofs.Signs.{sides}

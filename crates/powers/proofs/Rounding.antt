@@ -1,10 +1,10 @@
 -- The last rounding: 24 digits of what was raised, within half a step of it; with the floors of `raised` the digits are within 257 2 ^ -32 of 2 ^ t.
 -- Assumes nothing.
 use mathlib.Core.Path.{_≡_, sym}
-use Prim.Native.Nat.{ℕ, _+_, _*_, _/_, _^_, _≤_, _<_}
+use Prim.Native.Nat.{ℕ, _+_, _*_, _^_, _≤_}
 use native.Mathlib.Nat.{le-trans, le-of-eq, mul-le-mul-left, mul-le-mul-right}
 use native.Mathlib.Omega.{arith}
-use lib.Dec.{lit<, lit≤}
+use lib.Dec.{lit<}
 use Rattle.exact.specs.Power.{AtMost, AtLeast}
 use Rattle.exact.proofs.Power.{least-of-more, most-of-less, least-pos}
 use Rattle.powers.specs.Exp2.{digitsOf}
@@ -48,17 +48,17 @@ module _ (f : ℕ) (small : f ≤ D) where
   unfolding digitsOf
   half-below = omega (arith, digits-first f, raised-rises f)
 
-  -- digits / 2 ^ 23 ≤ (1 + 256 / D) (1 + 3 / (5 D)) 2 ^ (f / D)
-  pub digits-most : AtMost (5 * D * D * (512 * digitsOf f)) ((5 * D + 3) * (D + 256) * D) f 0 D
+  -- digits / 2 ^ 23 ≤ (1 + 256 / D) (1 + 1 / (2 D)) 2 ^ (f / D)
+  pub digits-most : AtMost (2 * D * D * (512 * digitsOf f)) ((2 * D + 1) * (D + 256) * D) f 0 D
   digits-most = most-of-less (lit< tt) (through D (D + 256) (512 * digitsOf f) (raised f) half-above) (raised-most f small)
     where
-      through : (d h s r : ℕ) → s * d ≤ r * h → 5 * d * d * s * ((5 * d + 3) * d) ≤ 5 * d * r * ((5 * d + 3) * h * d)
-      through d h s r l = omega (arith, mul-le-mul-right (5 * d * ((5 * d + 3) * d)) l)
+      through : (d h s r : ℕ) → s * d ≤ r * h → 2 * d * d * s * ((2 * d + 1) * d) ≤ 2 * d * r * ((2 * d + 1) * h * d)
+      through d h s r l = omega (arith, mul-le-mul-right (2 * d * ((2 * d + 1) * d)) l)
 
-  -- 2 ^ (f / D) ≤ (1 + 2561 / (10 D)) (1 + 3 / (5 D)) digits / 2 ^ 23
-  pub digits-least : AtLeast ((5 * D + 3) * (10 * D + 2561) * (512 * digitsOf f)) (5 * D * (10 * D * D)) f 0 D
+  -- 2 ^ (f / D) ≤ (1 + 2561 / (10 D)) (1 + 1 / (2 D)) digits / 2 ^ 23
+  pub digits-least : AtLeast ((2 * D + 1) * (10 * D + 2561) * (512 * digitsOf f)) (2 * D * (10 * D * D)) f 0 D
   digits-least =
       least-of-more (least-pos (lit< tt) (lit< tt) (raised-least f small)) (through D (10 * D + 2561) (512 * digitsOf f) ((raised f + 1) * D + 6 * f) half-below) (raised-least f small)
     where
-      through : (d h s r : ℕ) → 10 * r ≤ s * h → (5 * d + 3) * r * (5 * d * (10 * d * d)) ≤ (5 * d + 3) * h * s * (5 * d * (d * d))
-      through d h s r l = omega (arith, mul-le-mul-left (5 * d * ((5 * d + 3) * (d * d))) l)
+      through : (d h s r : ℕ) → 10 * r ≤ s * h → (2 * d + 1) * r * (2 * d * (10 * d * d)) ≤ (2 * d + 1) * h * s * (2 * d * (d * d))
+      through d h s r l = omega (arith, mul-le-mul-left (2 * d * ((2 * d + 1) * (d * d))) l)

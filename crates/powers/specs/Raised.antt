@@ -7,7 +7,7 @@ use Rattle.fixed.specs.Horner.{horner}
 -- the coefficients of a polynomial near 2 ^ t, in units of 2 ^ -32; tools/exp2.py finds them
 unfoldable pub coefficients : List ℕ
 coefficients =
-    (2 ^ 32) ∷ 0xb17217f9 ∷ 0x3d7f7b9d ∷ 0x0e358a46 ∷ 0x0276334b ∷ 0x0057c0fe ∷ 0x0009918d ∷ 0x00015c4d ∷ []
+    (2 ^ 32) ∷ 0xb1721808 ∷ 0x3d7f7a4b ∷ 0x0e3593ba ∷ 0x02761501 ∷ 0x0057f139 ∷ 0x00096c36 ∷ 0x00016783 ∷ []
 
 -- 2 ^ (f / 2 ^ 32) in units of 2 ^ -32, but for a unit or so
 unfoldable pub raised : ℕ → ℕ

@@ -18,13 +18,13 @@ fn raise(f: u64) -> u64
     requires { ⌜ f < 2 ^ 32 ⌝ }
     ensures { λ r. ⌜ r ≡ raised f ⌝ }
 {
-    let c6 = step(0x0009_918d, 0x0001_5c4d, f);
-    let c5 = step(0x0057_c0fe, c6, f);
-    let c4 = step(0x0276_334b, c5, f);
-    let c3 = step(0x0e35_8a46, c4, f);
-    let c2 = step(0x3d7f_7b9d, c3, f);
-    let c1 = step(0xb172_17f9, c2, f);
-    step(0x1_0000_0000, c1, f)
+    let p6 = step(0x0009_6c36, 0x0001_6783, f);
+    let p5 = step(0x0057_f139, p6, f);
+    let p4 = step(0x0276_1501, p5, f);
+    let p3 = step(0x0e35_93ba, p4, f);
+    let p2 = step(0x3d7f_7a4b, p3, f);
+    let p1 = step(0xb172_1808, p2, f);
+    step(0x1_0000_0000, p1, f)
 }
 
 // The size below 2^7 with the pattern b as a whole number of 2^-32, cut off: its digits shifted to their place.

@@ -1,7 +1,7 @@
 -- `powers::cut_off` meets its contract: each sign is a law of `Taken`. Assumes nothing.
 use borrow.Author.Needs.{needs}
 use mathlib.Core.Path.{ap, _∙_}
-use Prim.Native.Nat.{ℕ, _+_, _-_, _≤_}
+use Prim.Native.Nat.{ℕ, _+_, _-_}
 use native.Mathlib.Nat.{le-trans, le-of-eq}
 use Rattle.fixed.proofs.Take.{no-nan}
 use Rattle.powers.proofs.Taken.{pattern-small, cut-plus, cut-minus}

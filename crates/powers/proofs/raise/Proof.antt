@@ -38,11 +38,11 @@ returns c =
     let s5 = s4 .before in
     let s6 = s5 .before in
     let f = s6 .before .args .f in
-    horner-step D f D _
-    (horner-step D f 0xb17217f9 _
-    (horner-step D f 0x3d7f7b9d _
-    (horner-step D f 0x0e358a46 _
-    (horner-step D f 0x0276334b _ (horner-step D f 0x0057c0fe _ (horner-step D f 0x0009918d _ (sym (horner-one D 0x00015c4d f)) (s6 .step .ensures .0)) (s5 .step2 .ensures .0)) (s4 .step3 .ensures .0))
+    horner-step D f _ _
+    (horner-step D f _ _
+    (horner-step D f _ _
+    (horner-step D f _ _
+    (horner-step D f _ _ (horner-step D f _ _ (horner-step D f _ _ (sym (horner-one D _ f)) (s6 .step .ensures .0)) (s5 .step2 .ensures .0)) (s4 .step3 .ensures .0))
     (s3 .step4 .ensures .0))
     (s2 .step5 .ensures .0))
     (s1 .step6 .ensures .0))

@@ -1,7 +1,6 @@
 -- `powers::steps` meets its contract: the two cases of the shift. Assumes nothing.
 use borrow.Author.Needs.{needs}
 use mathlib.Core.Path.{sym}
-use Prim.Native.Nat.{_/_, _^_, _≤_}
 use native.Mathlib.Nat.{le-trans, div-le-self}
 use native.Mathlib.Omega.{arith}
 use Rattle.powers.proofs.Taken.{steps-low, steps-high}
