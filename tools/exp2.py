@@ -19,18 +19,18 @@ def error(cs, i):
 
 
 def extrema(cs, count):
-    """The grid's points with the greatest errors, of alternating signs: one from each stretch of one sign, then the greatest."""
+    """Points of the grid with the greatest errors, of alternating signs: the greatest of each stretch of one sign, and of
+    these as many as wanted, less those at the ends that are the smaller."""
     best = []
     for i in range(1, GRID + 1):
         e = error(cs, i)
-        if best and (error(cs, best[-1]) > 0) == (e > 0):
-            if abs(e) > abs(error(cs, best[-1])):
-                best[-1] = i
+        if best and (best[-1][0] > 0) == (e > 0):
+            best[-1] = max(best[-1], (e, i), key=lambda b: abs(b[0]))
         else:
-            best.append(i)
+            best.append((e, i))
     while len(best) > count:
-        best.pop(0 if abs(error(cs, best[0])) < abs(error(cs, best[-1])) else -1)
-    return best
+        best.pop(0 if abs(best[0][0]) < abs(best[-1][0]) else -1)
+    return [i for _, i in best]
 
 
 def fit(fixed):

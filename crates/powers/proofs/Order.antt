@@ -13,17 +13,19 @@ use Rattle.powers.specs.Exp2.{digitsOf}
 use Rattle.powers.proofs.Method.{D}
 use Rattle.powers.proofs.Rounding.{digits-zero, digits-mono, digits-first, digits-last}
 
--- the whole part and the digits of what x was cut to
+-- the whole part of what x was cut to
 abbrev pub exponentOf : ℕ → ℕ
 exponentOf X = X / 2 ^ 32
 
+-- the digits of its fraction's power
 abbrev pub fractionDigits : ℕ → ℕ
 fractionDigits X = digitsOf (X % 2 ^ 32)
 
--- the digits are 24, or the carry
+-- these are 24
 pub first : (X : ℕ) → 2 ^ 23 ≤ fractionDigits X
 first X = digits-first (X % D)
 
+-- or the carry
 pub last : (X : ℕ) → fractionDigits X ≤ 2 ^ 24
 last X = digits-last (X % D) (omega arith)
 

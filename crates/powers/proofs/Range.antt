@@ -13,13 +13,15 @@ use Rattle.units.proofs.Sums.{neg-sides, neg-number}
 use Rattle.units.proofs.Bits.{Is, put-positive}
 use Rattle.powers.specs.Exp2.{Accepts}
 
--- 126 and 127, and the ends of the range
+-- 126
 abbrev lower : Float
 lower = ofBits binary32 0x42fc0000
 
+-- -126, as the program writes it
 abbrev pub bottom : Float
 bottom = neg lower
 
+-- 127
 abbrev pub top : Float
 top = ofBits binary32 0x42fe0000
 

@@ -28,9 +28,11 @@ abbrev cut : ℕ → ℕ → ℕ → ℕ → ℕ
 cut d k p n = 126 * d + p / k - n / k
 
 module _ (d k p n : ℕ) (pos : 0 < k) (small : n ≤ 126 * (d * k)) where
+  -- there is room below 126 for what is taken away
   pub quotient : n / k ≤ 126 * d
   quotient = le-of-mul-le-mul-right (le-trans (div-mul-le-self n k) (omega arith)) pos
 
+  -- what was cut to, less 126, is above p - n by less than a step
   cut-above : (cut d k p n + 0) * (d * k) + n * d ≤ p * d + (126 * d + 1) * (d * k)
   cut-above = through (p / k) (n / k) (cut d k p n) (omega (arith, quotient)) (div-mul-le-self p k) (lt-div-mul-add pos)
     where
@@ -39,6 +41,7 @@ module _ (d k p n : ℕ) (pos : 0 < k) (small : n ≤ 126 * (d * k)) where
           let m : X * k + n ≤ p + (126 * d + 1) * k = omega (arith, ap (λ (z : ℕ). z * k) e) in
           omega (arith, mul-le-mul-right d m)
 
+  -- and below it by less than a step
   cut-below : p * d + (126 * d + 0) * (d * k) ≤ (cut d k p n + 1) * (d * k) + n * d
   cut-below = through (p / k) (n / k) (cut d k p n) (omega (arith, quotient)) (lt-div-mul-add pos) (div-mul-le-self n k)
     where
@@ -47,6 +50,7 @@ module _ (d k p n : ℕ) (pos : 0 < k) (small : n ≤ 126 * (d * k)) where
           let m : p + 126 * d * k ≤ (X + 1) * k + n = omega (arith, ap (λ (z : ℕ). z * k) e) in
           omega (arith, mul-le-mul-right d m)
 
+  -- where p - n is a whole number i - j, it is i - j
   cut-exact : (i j : ℕ) → p + j * (d * k) ≡ n + i * (d * k) → cut d k p n + j * d ≡ (126 + i) * d
   cut-exact i j e =
       let w : (p + j * d * k) / k ≡ (n + i * d * k) / k = ap (λ (z : ℕ). z / k) (omega arith) in

@@ -37,10 +37,12 @@ digitsOf f = (raised f + 256) / 512
 unfoldable pub exp2Of : Float → Float
 exp2Of x = ofBits binary32 (cutOf x / 2 ^ 32 * 8388608 + digitsOf (cutOf x % 2 ^ 32))
 
--- the proved relative error, 515 2 ^ -33 or 2 ^ -23.99: document 01 asks for 2 ^ -22
+-- the proved relative error, 515 2 ^ -33 or 2 ^ -23.99: half a step is 512, and the polynomial, its floors and what x was cut by share the rest
+-- document 01 asks for 2 ^ -22
 abbrev pub exp2Error : ℕ
 exp2Error = 515
 
+-- and its denominator
 abbrev pub exp2Unit : ℕ
 exp2Unit = 2 ^ 33
 
