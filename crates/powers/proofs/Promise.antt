@@ -61,9 +61,9 @@ module _ (x : Float) (a : Accepts x) where
   within-least =
       rw exp2-units
       (least-of-more (least-pos (lit< tt) (lit< tt) whole)
-      (through exp2Unit _ ((2 * D + 1) * (10 * D + 2561)) (10 * D + 7) ((exp2Unit - exp2Error) * 2 ^ 149) S (2 ^ g) (lit≤ tt)) whole)
+      (through exp2Unit _ ((2 * D + 1) * (400 * D + 102501)) (10 * D + 7) ((exp2Unit - exp2Error) * 2 ^ 149) S (2 ^ g) (lit≤ tt)) whole)
     where
-      whole : AtLeast ((2 * D + 1) * (10 * D + 2561) * (512 * S) * 2 ^ g * (10 * D + 7)) (2 * D * (10 * D * D) * 2 ^ 126 * (10 * D)) (P x) (N x) (2 ^ 149)
+      whole : AtLeast ((2 * D + 1) * (400 * D + 102501) * (512 * S) * 2 ^ g * (10 * D + 7)) (2 * D * (400 * D * D) * 2 ^ 126 * (10 * D)) (P x) (N x) (2 ^ 149)
       whole = least-uncut x a (rw parts at (least-shift g 126 (digits-least f fraction)))
 
       through : (b d n t z s G : ℕ) → n * 512 * t * z ≤ b * d → n * (512 * s) * G * t * z ≤ b * (s * G) * d

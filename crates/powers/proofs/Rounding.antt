@@ -43,8 +43,8 @@ module _ (f : ℕ) (small : f ≤ D) where
   unfolding digitsOf
   half-above = omega (arith, least)
 
-  -- with the floors they are less by half a step at most, and a little that a tenth of a unit covers
-  half-below : 10 * ((raised f + 1) * D + 6 * f) ≤ 512 * digitsOf f * (10 * D + 2561)
+  -- with the floors they are less by half a step and a quarter of a unit at most, and a little that a hundredth of a quarter covers: what the floors lose in proportion to f, the power has gained
+  half-below : 100 * ((4 * raised f + 5) * D + 256 * f) ≤ 512 * digitsOf f * (400 * D + 102501)
   unfolding digitsOf
   half-below = omega (arith, digits-first f, raised-rises f)
 
@@ -55,10 +55,11 @@ module _ (f : ℕ) (small : f ≤ D) where
       through : (d h s r : ℕ) → s * d ≤ r * h → 2 * d * d * s * ((2 * d + 1) * d) ≤ 2 * d * r * ((2 * d + 1) * h * d)
       through d h s r l = omega (arith, mul-le-mul-right (2 * d * ((2 * d + 1) * d)) l)
 
-  -- 2 ^ (f / D) ≤ (1 + 2561 / (10 D)) (1 + 1 / (2 D)) digits / 2 ^ 23
-  pub digits-least : AtLeast ((2 * D + 1) * (10 * D + 2561) * (512 * digitsOf f)) (2 * D * (10 * D * D)) f 0 D
+  -- 2 ^ (f / D) ≤ (1 + 102501 / (400 D)) (1 + 1 / (2 D)) digits / 2 ^ 23
+  pub digits-least : AtLeast ((2 * D + 1) * (400 * D + 102501) * (512 * digitsOf f)) (2 * D * (400 * D * D)) f 0 D
   digits-least =
-      least-of-more (least-pos (lit< tt) (lit< tt) (raised-least f small)) (through D (10 * D + 2561) (512 * digitsOf f) ((raised f + 1) * D + 6 * f) half-below) (raised-least f small)
+      least-of-more (least-pos (lit< tt) (lit< tt) (raised-least f small))
+      (through D (400 * D + 102501) (512 * digitsOf f) ((4 * raised f + 5) * D + 256 * f) half-below) (raised-least f small)
     where
-      through : (d h s r : ℕ) → 10 * r ≤ s * h → (2 * d + 1) * r * (2 * d * (10 * d * d)) ≤ (2 * d + 1) * h * s * (2 * d * (d * d))
-      through d h s r l = omega (arith, mul-le-mul-left (2 * d * ((2 * d + 1) * (d * d))) l)
+      through : (d h s r : ℕ) → 100 * r ≤ s * h → (2 * d + 1) * r * (2 * d * (400 * d * d)) ≤ (2 * d + 1) * h * s * (2 * d * (4 * d * d))
+      through d h s r l = omega (arith, mul-le-mul-left (2 * d * ((2 * d + 1) * (4 * d * d))) l)
