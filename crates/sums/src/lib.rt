@@ -10,9 +10,10 @@ fn in_turn(a: &[f32], b: &[f32]) -> f32
     requires { ⌜ length (now a) ≡ length (now b) ⌝ }
     ensures { λ r. ⌜ r ≡ dotOf (now (a .entry)) (now (b .entry)) ⌝ }
 {
+    let n = a.len();
     let mut s = 0.0;
     let mut i = 0;
-    while i < a.len() {
+    while i < n {
         s = s + a[i] * b[i];
         i += 1;
     }

@@ -11,10 +11,10 @@ use Rattle.sums.proofs.in_turn.Statement.{statement}
 use Rattle.sums.proofs.in_turn.Tie as tie
 
 abbrev Inv-loop : tie.InvT-loop
-Inv-loop a b s₀ i₀ s i = (i ≤ length a) × (run s (drop i a) (drop i b) ≡ dotOf a b)
+Inv-loop a b n₀ s₀ i₀ s i = (i ≤ length a) × (run s (drop i a) (drop i b) ≡ dotOf a b)
 
 abbrev μ-loop : tie.MeasureT-loop
-μ-loop a b s₀ i₀ s i = length a - i
+μ-loop a b n₀ s₀ i₀ s i = length a - i
 
 loop-holds : tie.Need-loop-holds Inv-loop μ-loop
 unfolding total
