@@ -1,6 +1,6 @@
 -- The machine's comparisons of finite floats are comparisons of their units, and a test against finite bounds shows that a float is finite.
 -- Assumes nothing.
-use mathlib.Core.Path.{_≡_, refl, sym, ap, _∙_, subst}
+use mathlib.Core.Path.{_≡_, refl, sym, ap, _∙_}
 use mathlib.Core.Logic.{_⊎_, inl, inr}
 use Prim.Native.Nat.{ℕ, _+_, _*_, _^_, _≤_, _<_}
 use native.Mathlib.Nat.{le-of-eq, lt-of-lt-of-le, not-le-of-lt, zero-mul, mul-assoc, mul-comm, mul-right-comm, mul-pos}
