@@ -38,6 +38,7 @@ promised a b before p q l f =
       bad-length = λ n. absurd (n l);
       out-of-range = λ g n. absurd (n (h .elements));
       overflow = λ g e n. absurd (n (h .intermediates));
+      only-there = λ e. absurd (omega arith);
       success = λ g. refl;
       kept = λ n. absurd (n h);
       value = λ g. refl;
@@ -48,11 +49,13 @@ promised a b before p q l f =
 
 -- ---- refusals: what is not accepted has a code, and nothing is written
 module _ (a b : List Float) (before : Float) where
-  refused : (code : ℕ) → ¬ Accepts a b → (¬ Lengths a b → code ≡ 2) → (Lengths a b → ¬ Elements a b → code ≡ 1) → (Lengths a b → Elements a b → ¬ Intermediates (dotSum a b) → code ≡ 3) → Dot a b code before before
-  refused code n c₂ c₁ c₃ = record {
+  refused : (code : ℕ) → ¬ Accepts a b → (¬ Lengths a b → code ≡ 2) → (Lengths a b → ¬ Elements a b → code ≡ 1) → (Lengths a b → Elements a b → ¬ Intermediates (dotSum a b) → code ≡ 3)
+      → (code ≡ 3 → ¬ Intermediates (dotSum a b)) → Dot a b code before before
+  refused code n c₂ c₁ c₃ only = record {
     bad-length = c₂;
     out-of-range = c₁;
     overflow = c₃;
+    only-there = only;
     success = λ h. absurd (n h);
     kept = λ h. refl;
     value = λ h. absurd (n h);
@@ -63,12 +66,14 @@ module _ (a b : List Float) (before : Float) where
 
   -- lengths that differ or are forbidden
   pub refused-lengths : ¬ Lengths a b → Dot a b 2 before before
-  refused-lengths n = refused 2 (λ h. n (h .lengths)) (λ m. refl) (λ l. absurd (n l)) (λ l. absurd (n l))
+  refused-lengths n = refused 2 (λ h. n (h .lengths)) (λ m. refl) (λ l. absurd (n l)) (λ l. absurd (n l)) (λ e. absurd (omega arith))
 
   -- an element that is not finite
   pub refused-element : Lengths a b → ¬ Elements a b → Dot a b 1 before before
-  refused-element l n = refused 1 (λ h. n (h .elements)) (λ m. absurd (m l)) (λ g m. refl) (λ g e. absurd (n e))
+  refused-element l n = refused 1 (λ h. n (h .elements)) (λ m. absurd (m l)) (λ g m. refl) (λ g e. absurd (n e)) (λ e. absurd (omega arith))
 
   -- finite elements and a result that is not finite: one of the intermediate results, the result among them, is not
   pub refused-overflow : Lengths a b → Elements a b → ¬ T (finite (dotOf a b)) → Dot a b 3 before before
-  refused-overflow l e n = refused 3 (λ h. n (last-finite (dotSum a b) (h .intermediates))) (λ m. absurd (m l)) (λ g m. absurd (m e)) (λ g h m. refl)
+  refused-overflow l e n =
+      let not-all : ¬ Intermediates (dotSum a b) = λ i. n (last-finite (dotSum a b) i) in
+      refused 3 (λ h. not-all (h .intermediates)) (λ m. absurd (m l)) (λ g m. absurd (m e)) (λ g h m. refl) (λ c. not-all)

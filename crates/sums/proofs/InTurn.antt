@@ -46,6 +46,7 @@ over-in-turn f s [] ys = omega arith
 over-in-turn f s (x ∷ xs) [] = omega arith
 over-in-turn f s (x ∷ xs) (y ∷ ys) = let h = over-in-turn f (plus s (product x y)) xs ys in omega arith
 
+-- the same from nothing on
 pub over-dot : (f : Float → Float → ℕ) (a b : List Float) → over f (dotSum a b) ≡ sumOver f a b
 unfolding over
 over-dot f a b = let h = over-in-turn f nothing a b in omega arith
@@ -69,6 +70,7 @@ finite-in-turn s (x ∷ xs) (y ∷ ys) e f =
     let (u, v) = mul-operands x y p in
     (h, record { first = and-i (finite x) (allFinite xs) u (r .first); second = and-i (finite y) (allFinite ys) v (r .second) })
 
+-- the same from nothing on
 pub finite-dot : (a b : List Float) → length a ≡ length b → T (finite (total (dotSum a b))) → Elements a b
 finite-dot a b e f = finite-in-turn nothing a b e f .1
 
@@ -86,6 +88,7 @@ factors-in-turn s (x ∷ xs) (y ∷ ys) p q e f =
     (record { first = and-r (finite x) (allFinite xs) (e .first); second = and-r (finite y) (allFinite ys) (e .second) })
     (f, (record { fits32 = p 0; is-finite = and-l (finite x) (allFinite xs) (e .first) }, record { fits32 = q 0; is-finite = and-l (finite y) (allFinite ys) (e .second) }))
 
+-- the same from nothing on
 pub factors-dot : (a b : List Float) → Fits a → Fits b → Elements a b → Factors (dotSum a b)
 unfolding Factors
 factors-dot a b p q e = factors-in-turn nothing a b p q e tt

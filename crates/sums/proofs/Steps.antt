@@ -109,16 +109,13 @@ off-plus k n n' x y a b a' b' l h g t f f' =
     shared : (H e : ℕ) → e ≤ (k + 1) * (a + b + (a' + b')) + (n * H + n' * H) → e ≤ (k + 1) * (a + b + (a' + b')) + (n + n') * H
     shared H e i = omega arith
 
--- adding zero is exact, on either side
+-- adding to zero is exact
 pub add-zero-left : (x y : Float) → Number x → Number y → (P x ≡ 0) × (N x ≡ 0) → (P (add binary32 x y) ≡ P y) × (N (add binary32 x y) ≡ N y)
 add-zero-left x y h k (p, n) = rounds-exact (add binary32 x y) (P x + P y) (N x + N y) 1 (lit< tt) (add-rounds x y h k) y k (omega arith)
 
+-- and so is adding zero
 pub add-zero-right : (x y : Float) → Number x → Number y → (P y ≡ 0) × (N y ≡ 0) → (P (add binary32 x y) ≡ P x) × (N (add binary32 x y) ≡ N x)
 add-zero-right x y h k (p, n) = rounds-exact (add binary32 x y) (P x + P y) (N x + N y) 1 (lit< tt) (add-rounds x y h k) x h (omega arith)
-
--- the same number in every respect is as far off
-pub off-same : (k n n' : ℕ) (x z : Float) (a b s a' b' s' : ℕ) → (P z ≡ P x) × (N z ≡ N x) → n' ≡ n → a' ≡ a → b' ≡ b → s' ≡ s → Off k n x a b s → Off k n' z a' b' s'
-off-same k n n' x z a b s a' b' s' (p, m) e f g h o = rw (p, m, e, f, g, h) o
 
 -- +0 stands for nothing, exactly
 pub off-nothing : Off 0 0 (ofBits binary32 0) 0 0 0

@@ -13,7 +13,7 @@ use Rattle.units.proofs.Order.{zero-is, zero-units}
 use Rattle.units.proofs.Sums.{add-rounds, add-operands}
 use Rattle.units.proofs.Products.{mul-rounds}
 use Rattle.sums.specs.Sum.{Sum, nothing, product, plus, total, Intermediates, Factors, over, above, below, size, one, apart, NearBy, joined, roundings}
-use Rattle.sums.proofs.Steps.{Off, size-is, off-product, off-more, off-plus, off-same, off-nothing, add-zero-left, add-zero-right}
+use Rattle.sums.proofs.Steps.{Off, size-is, off-product, off-more, off-plus, off-nothing, add-zero-left, add-zero-right}
 
 -- ---- an infinity or a NaN never becomes finite again: where the result is finite, every intermediate result is
 pub intermediates : (t : Sum) → T (finite (total t)) → Intermediates t
@@ -78,24 +78,22 @@ sizes (plus s t) = let p = sizes s in let q = sizes t in omega arith
 abbrev Known : ℕ → Sum → Type 0
 Known k t = Off k (over one t) (total t) (over above t) (over below t) (over size t)
 
+-- the same number in every respect is known as well
+known-same : (t u : Sum) (k : ℕ) → (P (total u) ≡ P (total t)) × (N (total u) ≡ N (total t)) → ((g : Float → Float → ℕ) → over g u ≡ over g t) → Known k t → Known k u
+known-same t u k (p, n) e h = rw (p, n, e one, e above, e below, e size) h
+
 module _ (s t : Sum) (fs : Factors s) (ft : Factors t) (is : Intermediates s) (it : Intermediates t) (f : T (finite (total (plus s t)))) where
   known-left : (k : ℕ) → roundings s ≡ 0 → Known k t → Known k (plus s t)
   unfolding total over
-  known-left k e h =
-      off-same k (over one t) (over one (plus s t)) (total t) (total (plus s t)) (over above t) (over below t) (over size t) (over above (plus s t)) (over below (plus s t)) (over size (plus s t))
-      (add-zero-left (total s) (total t) (total-number s fs is) (total-number t ft it) (zero-none s fs is e)) (rest one) (rest above) (rest below) (rest size) h
-    where
-      rest : (g : Float → Float → ℕ) → over g s + over g t ≡ over g t
-      rest g = let z = over-none g s e in omega arith
+  known-left k e =
+      known-same t (plus s t) k (add-zero-left (total s) (total t) (total-number s fs is) (total-number t ft it) (zero-none s fs is e))
+      (λ g. let z = over-none g s e in omega arith)
 
   known-right : (k : ℕ) → roundings t ≡ 0 → Known k s → Known k (plus s t)
   unfolding total over
-  known-right k e h =
-      off-same k (over one s) (over one (plus s t)) (total s) (total (plus s t)) (over above s) (over below s) (over size s) (over above (plus s t)) (over below (plus s t)) (over size (plus s t))
-      (add-zero-right (total s) (total t) (total-number s fs is) (total-number t ft it) (zero-none t ft it e)) (rest one) (rest above) (rest below) (rest size) h
-    where
-      rest : (g : Float → Float → ℕ) → over g s + over g t ≡ over g s
-      rest g = let z = over-none g t e in omega arith
+  known-right k e =
+      known-same s (plus s t) k (add-zero-right (total s) (total t) (total-number s fs is) (total-number t ft it) (zero-none t ft it e))
+      (λ g. let z = over-none g t e in omega arith)
 
   known-both : (j k m : ℕ) → j ≤ m → k ≤ m → m < 2 ^ 24 → Known j s → Known k t → Known (m + 1) (plus s t)
   unfolding total over

@@ -21,6 +21,7 @@ unfoldable pub allFinite : List Float → Bool
 allFinite [] = true
 allFinite (x ∷ xs) = finite x && allFinite xs
 
+-- of both lists
 pub record Elements (a b : List Float) : Type 0 where
   pub first : T (allFinite a)
   pub second : T (allFinite b)
@@ -31,6 +32,7 @@ inTurn s [] ys = s
 inTurn s (x ∷ xs) [] = s
 inTurn s (x ∷ xs) (y ∷ ys) = inTurn (plus s (product x y)) xs ys
 
+-- the order for two lists
 abbrev pub dotSum : List Float → List Float → Sum
 dotSum a b = inTurn nothing a b
 
@@ -56,8 +58,10 @@ pub record Dot (a b : List Float) (code : ℕ) (before after : Float) : Type 0 w
   pub bad-length : ¬ Lengths a b → code ≡ 2
   -- else code 1, OUT_OF_RANGE, where an element is not finite
   pub out-of-range : Lengths a b → ¬ Elements a b → code ≡ 1
-  -- else code 3, OVERFLOW, where an intermediate result of the program's order is not finite, and only there: all else is success
+  -- else code 3, OVERFLOW, where an intermediate result of the program's order is not finite
   pub overflow : Lengths a b → Elements a b → ¬ Intermediates (dotSum a b) → code ≡ 3
+  -- and only there: all else is success
+  pub only-there : code ≡ 3 → ¬ Intermediates (dotSum a b)
   pub success : Accepts a b → code ≡ 0
   -- a refusal writes nothing
   pub kept : ¬ Accepts a b → after ≡ before

@@ -37,10 +37,11 @@ over f nothing = 0
 over f (product x y) = f x y
 over f (plus s t) = over f s + over f t
 
--- the exact product is above - below: what it is where it is positive, and where it is negative
+-- the exact product is above - below, of which one is 0: its size where it is positive
 abbrev pub above : Float → Float → ℕ
 above x y = P x * P y + N x * N y
 
+-- and its size where it is negative
 abbrev pub below : Float → Float → ℕ
 below x y = P x * N y + N x * P y
 
