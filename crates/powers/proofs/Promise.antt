@@ -118,8 +118,8 @@ weaker {a} {b} {a′} {b′} {x} {r} less wider w = record {
         through c d h = omega (arith, mul-le-mul-right (p * q) h)
 
 -- so the result is within 2 ^ -22, which document 01 asks for
-pub within-document-01 : {x r : Float} → Within exp2Error exp2Unit x r → Within 1 (2 ^ 22) x r
-within-document-01 = weaker (lit< tt) (lit≤ tt)
+pub as-asked : {x r : Float} → Within exp2Error exp2Unit x r → Within 1 (2 ^ 22) x r
+as-asked = weaker (lit< tt) (lit≤ tt)
 
 -- ---- the whole promise, of an accepted x and of any other
 
