@@ -8,11 +8,12 @@
 #include <math.h>
 #include <stdint.h>
 #include <stdio.h>
-#include <time.h>
 
+#include "clock.h"
 #include "earmath.h"
 
 float newlib_sqrtf(float x);
+float newlib_powf(float x, float y);
 
 /* Where inputs come from: evenly over the bit patterns from one float to
  * another, and so over the exponents between them, or evenly over the values. */
@@ -20,12 +21,15 @@ enum evenly { OVER_PATTERNS, OVER_VALUES };
 
 #define EVERY_NORMAL {"normal x > 0", OVER_PATTERNS, FLT_MIN, FLT_MAX}
 #define ONE_TO_FOUR {"x from 1 to 4", OVER_VALUES, 1, 4}
+#define EVERY_POWER {"x from -126 to 127", OVER_VALUES, -126, 127}
+#define AROUND_ZERO {"x from -1 to 1", OVER_VALUES, -1, 1}
 
 /* The contests, a line for each function: its name, our call from x to *out,
  * what newlib's and glibc's code give, and two kinds of inputs. */
 #define CONTESTS(LINE) \
     LINE(square_root, ear_sqrt(x, out), newlib_sqrtf(x), sqrtf(x), EVERY_NORMAL, ONE_TO_FOUR) \
-    LINE(reciprocal_root, ear_rsqrt(x, out), 1.0f / newlib_sqrtf(x), 1.0f / sqrtf(x), EVERY_NORMAL, ONE_TO_FOUR)
+    LINE(reciprocal_root, ear_rsqrt(x, out), 1.0f / newlib_sqrtf(x), 1.0f / sqrtf(x), EVERY_NORMAL, ONE_TO_FOUR) \
+    LINE(power_of_two, ear_exp2(x, out), newlib_powf(2.0f, x), exp2f(x), EVERY_POWER, AROUND_ZERO)
 
 enum { INPUTS = 8192, ROUNDS = 200, OURS = 0, NEWLIB, GLIBC, CONTESTANTS };
 
@@ -97,13 +101,6 @@ static const struct contest contests[] = {CONTESTS(LINE_OF)};
 
 enum { COUNT = sizeof contests / sizeof contests[0] };
 
-static double now(void)
-{
-    struct timespec t;
-    clock_gettime(CLOCK_MONOTONIC, &t);
-    return (double)t.tv_sec * 1e9 + (double)t.tv_nsec;
-}
-
 /* The same inputs in every round and for every contestant. */
 static void fill(const struct inputs *inputs)
 {
@@ -150,7 +147,8 @@ int main(void)
 {
     puts("Nanoseconds for a call, best of all rounds; a ratio above 1 means that ours is the faster.");
     puts("glibc's sqrtf is called in the library, whose code is the processor's root instruction;");
-    puts("the reciprocal root's rivals are 1.0f / sqrtf(x), which is not always the nearest float.\n");
+    puts("the reciprocal root's rivals are 1.0f / sqrtf(x), which is not always the nearest float;");
+    puts("newlib's exp2f without double precision is powf(2, x), and glibc's computes in double precision.\n");
     printf("%-16s %-19s %-11s %7s %7s %7s %12s %11s\n", "function", "inputs", "measure", "ours", "newlib", "glibc",
            "newlib/ours", "glibc/ours");
     for (int i = 0; i < COUNT; i++)

@@ -1,5 +1,6 @@
 /*
- * Every one of the 2^32 patterns through every function of one argument.
+ * Every one of the 2^32 patterns through every function of one argument, or
+ * through those that are named on the command line.
  * Patterns are taken in the order of their values, in blocks that the threads
  * draw from a common counter, so that order is judged across the whole range.
  */
@@ -7,6 +8,7 @@
 #include <pthread.h>
 #include <stdatomic.h>
 #include <stdio.h>
+#include <string.h>
 #include <unistd.h>
 
 #include "functions.h"
@@ -132,11 +134,20 @@ static void every(const struct function *f, long threads)
     say(&own);
 }
 
-int main(void)
+static bool named(const struct function *f, int count, char **names)
+{
+    bool found = count == 0;
+    for (int i = 0; i < count; i++)
+        found |= strcmp(names[i], f->name) == 0;
+    return found;
+}
+
+int main(int count, char **words)
 {
     long threads = sysconf(_SC_NPROCESSORS_ONLN);
     threads = threads < 1 ? 1 : threads > MOST_THREADS ? MOST_THREADS : threads;
     for (int i = 0; i < FUNCTIONS; i++)
-        every(&functions[i], threads);
+        if (named(&functions[i], count - 1, words + 1))
+            every(&functions[i], threads);
     return verdict();
 }

@@ -2,7 +2,9 @@
 
 ghost use Rattle.roots.specs.Sqrt.{Sqrt};
 ghost use Rattle.roots.specs.Rsqrt.{Rsqrt};
+ghost use Rattle.powers.specs.Exp2.{Exp2};
 ghost use Rattle.logs.specs.Log2.{Log2};
+ghost use Rattle.sums.specs.Dot.{Dot};
 
 // The square root of every bit pattern: the nearest float, or code 1 and nothing written.
 #[no_mangle]
@@ -20,10 +22,26 @@ pub extern "C" fn ear_rsqrt(x: f32, out: &mut f32) -> u32
     roots::rsqrt(x, out)
 }
 
+// 2 to the power of every bit pattern: within 515 / 2^33 of it, or code 1 and nothing written.
+#[no_mangle]
+pub extern "C" fn ear_exp2(x: f32, out: &mut f32) -> u32
+    ensures { λ code. ⌜ Exp2 x code (now (out .entry)) (now (out .exit)) ⌝ }
+{
+    powers::exp2(x, out)
+}
+
 // The logarithm to base two of every bit pattern: within 2 ^ -21 * max(1, |log2 x|), or code 1 and nothing written.
 #[no_mangle]
 pub extern "C" fn ear_log2(x: f32, out: &mut f32) -> u32
     ensures { λ code. ⌜ Log2 x code (now (out .entry)) (now (out .exit)) ⌝ }
 {
     logs::log2(x, out)
+}
+
+// The sum of the products of two lists, within G times the sum of their sizes; or code 2, 1 or 3 and nothing written.
+#[no_mangle]
+pub extern "C" fn ear_dot(a: &[f32], b: &[f32], out: &mut f32) -> u32
+    ensures { λ code. ⌜ Dot (now (a .entry)) (now (b .entry)) code (now (out .entry)) (now (out .exit)) ⌝ }
+{
+    sums::dot(a, b, out)
 }

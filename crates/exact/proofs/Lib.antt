@@ -8,3 +8,4 @@ pub mod Enclosure
 pub mod Tight
 pub mod Near
 pub mod Logarithm
+pub mod Ratio

@@ -1,16 +1,16 @@
 -- The reciprocal root: the whole number nearest to the root of a power of two over the significand of x, put together with minus half the exponent, is the float
 -- nearest to 1 / √x. Assumes nothing.
-use mathlib.Core.Path.{_≡_, refl, sym, ap, _∙_, subst}
-use mathlib.Core.Logic.{_⊎_, inl, inr}
+use mathlib.Core.Path.{_≡_, sym, ap, _∙_, subst}
+use mathlib.Core.Logic.{inl, inr}
 use mathlib.Core.Bool.{Bool, true, false}
 use Prim.Native.Nat.{ℕ, zero, suc, _+_, _-_, _*_, _/_, _%_, _^_, _≤_, _<_, zero-le}
-use native.Mathlib.Nat.{mod-eq-of-lt, mul-zero, mul-right-comm, le-trans, le-of-eq, le-of-lt, lt-of-lt-of-le, lt-of-le-of-lt, lt-trans, not-le-of-lt, eq-or-lt-of-le, mul-assoc, mul-le-mul, mul-le-mul-right, mul-le-mul-left, mul-lt-mul-of-pos-right, mul-lt-mul-of-pos-left, mul-pos, lt-of-mul-lt-mul-right, le-of-mul-le-mul-right, pow-succ'}
+use native.Mathlib.Nat.{mod-eq-of-lt, mul-zero, mul-right-comm, le-trans, le-of-eq, le-of-lt, lt-of-lt-of-le, lt-of-le-of-lt, lt-trans, not-le-of-lt, eq-or-lt-of-le, mul-assoc, mul-le-mul, mul-le-mul-right, mul-le-mul-left, mul-lt-mul-of-pos-right, mul-lt-mul-of-pos-left, mul-pos, pow-succ'}
 use native.Mathlib.Omega.{arith}
 use lib.Dec.{leb}
 use lib.Pow.{pow-add, pow-pos, pow-mono}
 use borrow.Author.Tests.{le-leb, lt-leb, leb-true, leb-false}
 use lib.Ieee.{Float, binary32, ofBits}
-use Rattle.units.specs.Units.{mag, P, N, Number, Le}
+use Rattle.units.specs.Units.{mag, P, Number, Le}
 use Rattle.units.proofs.Naturals.{le-or-lt, proportion-le, proportion-lt}
 use Rattle.units.proofs.Signs.{plus-of, minus-of}
 use Rattle.units.proofs.Answers.{given, declined}
@@ -18,7 +18,7 @@ use Rattle.units.proofs.Bits.{Is, put-positive}
 use Rattle.fixed.specs.Parts.{Positive, Apart, significand, exponent}
 use Rattle.fixed.proofs.Take.{unique, own}
 use Rattle.fixed.proofs.Nearest.{Middle, nearest-above, nearest-below, in-order}
-use Rattle.roots.specs.Rsqrt.{NearestRecip, Within, IsNearRecip, nearRecip, rsqrtOf, Rsqrt}
+use Rattle.roots.specs.Rsqrt.{NearestRecip, Within, IsNearRecip, nearRecip, rsqrtOf, rsqrtError, Rsqrt}
 use Rattle.roots.proofs.Least.{least-is, first-passing}
 
 -- ---- Reduction: the power of two that the significand divides, and the exponent g of the result
@@ -335,3 +335,17 @@ refused x before n = record {
   near = λ h. absurd (n h);
   order = λ h. absurd (n h);
 }
+
+-- document 01's bound, relative 2 ^ -22, follows from the promise
+pub as-asked : (x r : Float) → Within 1 rsqrtError x r → Within 1 (2 ^ 22) x r
+as-asked x r w = record {
+  above-zero = w .above-zero;
+  at-least = least (2 ^ 447) (mag x * (P r * P r)) (w .at-least);
+  at-most = most (2 ^ 447) (mag x * (P r * P r)) (w .at-most);
+}
+  where
+    least : (B Y : ℕ) → 281474943156225 * B ≤ 281474976710656 * Y → 17592177655809 * B ≤ 17592186044416 * Y
+    least B Y h = omega arith
+
+    most : (B Y : ℕ) → 281474976710656 * Y ≤ 281475010265089 * B → 17592186044416 * Y ≤ 17592194433025 * B
+    most B Y h = omega arith

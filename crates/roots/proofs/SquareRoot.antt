@@ -1,8 +1,8 @@
 -- The square root: the whole number nearest to the root of 46 to 48 digits of x, put together with half the exponent, is the float nearest to the root of x.
 -- Assumes nothing.
-use mathlib.Core.Path.{_≡_, refl, sym, ap, _∙_, subst}
-use mathlib.Core.Logic.{_⊎_, inl, inr}
-use mathlib.Core.Bool.{Bool, true, false, cond}
+use mathlib.Core.Path.{_≡_, sym, ap, _∙_, subst}
+use mathlib.Core.Logic.{inl, inr}
+use mathlib.Core.Bool.{false}
 use Prim.Native.Nat.{ℕ, zero, suc, _+_, _-_, _*_, _/_, _%_, _^_, _≤_, _<_, zero-le}
 use native.Mathlib.Nat.{le-trans, le-of-eq, le-of-lt, lt-of-lt-of-le, lt-of-le-of-lt, lt-trans, not-le-of-lt, zero-mul, mod-eq-of-lt, mul-assoc, mul-le-mul, mul-le-mul-right, mul-le-mul-left, mul-lt-mul-of-pos-right, mul-pos}
 use native.Mathlib.Omega.{arith}
@@ -10,7 +10,7 @@ use lib.Pow.{pow-add, pow-pos, pow-mono}
 use lib.Dec.{leb, eqb}
 use borrow.Author.Tests.{le-leb, lt-leb, eq-eqb, ne-eqb}
 use lib.Ieee.{Float, binary32, ofBits}
-use Rattle.units.specs.Units.{mag, negative, P, N, Number, Le, Lt}
+use Rattle.units.specs.Units.{mag, P, N, Number, Le}
 use Rattle.units.proofs.Naturals.{le-or-lt}
 use Rattle.units.proofs.Signs.{size-sum, sign-plus}
 use Rattle.units.proofs.Answers.{given, declined}
@@ -236,13 +236,7 @@ sqrt-order x a x′ a′ l =
 -- ---- the whole promise, of an accepted x and of any other
 pub promised : (x before after : Float) → Accepts x → after ≡ sqrtOf x → Sqrt x 0 before after
 promised x before after a e = record {
-  answers = record {
-    success = λ h. refl;
-    refusal = λ h. absurd (h a);
-    kept = λ h. absurd (h a);
-    value = λ h. e;
-    finite = λ h. subst Number (sym e) (accepted x a .1);
-  };
+  answers = given sqrtOf x before after a e (subst Number (sym e) (accepted x a .1));
   nearest = λ h. subst (λ (r : Float). NearestRoot x r) (sym e) (accepted x a .0);
   zero = λ h z. e ∙ sqrt-zero x z;
   order = λ h x′ a′ l. subst (λ (r : Float). Le (sqrtOf x′) r) (sym e) (sqrt-order x a x′ a′ l);

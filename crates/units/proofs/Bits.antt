@@ -2,14 +2,14 @@
 -- S = 2 ^ 24 is the carry into the next exponent, g = 0 the subnormals. Assumes nothing.
 use mathlib.Core.Path.{_≡_, refl, sym, ap, _∙_, subst}
 use mathlib.Core.Logic.{_⊎_, inl, inr}
-use Prim.Native.Nat.{ℕ, zero, suc, _+_, _-_, _*_, _/_, _%_, _^_, _≤_, _<_}
+use Prim.Native.Nat.{ℕ, suc, _+_, _-_, _*_, _/_, _%_, _^_, _≤_, _<_}
 use native.Mathlib.Nat.{le-trans, le-of-eq, lt-of-le-of-lt, lt-of-lt-of-le, not-le-of-lt, zero-add, add-zero, add-assoc, div-one, mul-assoc, mul-div-cancel, le-of-mul-le-mul-right, lt-of-mul-lt-mul-right, pow-succ'}
 use native.Mathlib.Omega.{arith}
 use mathlib.Core.Bool.{Bool, true, false, not, cond}
-use lib.Dec.{T, leb, ltb, eqb, eqb→eq, not-T}
+use lib.Dec.{T, eqb, eqb→eq, not-T}
 use borrow.Author.Tests.{le-leb, lt-leb, le-ltb}
-use lib.Ieee.{Float, nan, inf, fin, binary32, up, down, size, odd, ofFields, ofBits, toBits, isNan, nanBits}
-use lib.Ieee.Bits.{is-false, cond-no, ofBits-fits, nanBits-above}
+use lib.Ieee.{Float, nan, inf, fin, binary32, size, odd, ofFields, ofBits, toBits, nanBits}
+use lib.Ieee.Bits.{cond-no, ofBits-fits, nanBits-above}
 use lib.Pow.{pow-add, pow-pos}
 use lib.Ieee.Digits.{size-lt, size-le, size-reaches}
 use lib.Ieee.Exact.{HasValue, odd-sign}

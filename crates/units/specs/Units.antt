@@ -1,6 +1,6 @@
 -- What number a float is: a whole number of units of 2 ^ -149, the least float above zero. Definitions only.
 use Prim.Native.Nat.{ℕ, _+_, _*_, _/_, _^_, _≤_, _<_}
-use mathlib.Core.Bool.{Bool, true, false, cond}
+use mathlib.Core.Bool.{Bool, false, cond}
 use lib.Dec.{T}
 use lib.Ieee.{Float, nan, inf, fin, up, down, binary32, fits}
 use lib.Ieee.Scale.{finite}

@@ -1,8 +1,7 @@
 -- `roots::sqrt` meets its promise: each return is an accepted float, or one that the tests show is not. Assumes nothing.
 use mathlib.Core.Path.{_≡_, sym, subst}
-use native.Mathlib.Omega.{arith}
 use lib.Dec.{T}
-use lib.Ieee.{binary32, fits, nanBits}
+use lib.Ieee.{nanBits}
 use Rattle.units.specs.Units.{mag}
 use Rattle.units.proofs.Order.{at-least-zero, below-zero, not-finite, eq-zero, eq-not-zero}
 use Rattle.roots.specs.Sqrt.{Accepts}
