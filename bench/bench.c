@@ -14,6 +14,7 @@
 
 float newlib_sqrtf(float x);
 float newlib_powf(float x, float y);
+float newlib_logf(float x);
 
 /* Where inputs come from: evenly over the bit patterns from one float to
  * another, and so over the exponents between them, or evenly over the values. */
@@ -29,7 +30,8 @@ enum evenly { OVER_PATTERNS, OVER_VALUES };
 #define CONTESTS(LINE) \
     LINE(square_root, ear_sqrt(x, out), newlib_sqrtf(x), sqrtf(x), EVERY_NORMAL, ONE_TO_FOUR) \
     LINE(reciprocal_root, ear_rsqrt(x, out), 1.0f / newlib_sqrtf(x), 1.0f / sqrtf(x), EVERY_NORMAL, ONE_TO_FOUR) \
-    LINE(power_of_two, ear_exp2(x, out), newlib_powf(2.0f, x), exp2f(x), EVERY_POWER, AROUND_ZERO)
+    LINE(power_of_two, ear_exp2(x, out), newlib_powf(2.0f, x), exp2f(x), EVERY_POWER, AROUND_ZERO) \
+    LINE(logarithm, ear_log2(x, out), newlib_logf(x) / 0.69314718f, log2f(x), EVERY_NORMAL, ONE_TO_FOUR)
 
 enum { INPUTS = 8192, ROUNDS = 200, OURS = 0, NEWLIB, GLIBC, CONTESTANTS };
 
@@ -148,7 +150,8 @@ int main(void)
     puts("Nanoseconds for a call, best of all rounds; a ratio above 1 means that ours is the faster.");
     puts("glibc's sqrtf is called in the library, whose code is the processor's root instruction;");
     puts("the reciprocal root's rivals are 1.0f / sqrtf(x), which is not always the nearest float;");
-    puts("newlib's exp2f without double precision is powf(2, x), and glibc's computes in double precision.\n");
+    puts("newlib's exp2f without double precision is powf(2, x), its log2f is logf(x) / ln 2, and glibc's two compute in");
+    puts("double precision.\n");
     printf("%-16s %-19s %-11s %7s %7s %7s %12s %11s\n", "function", "inputs", "measure", "ours", "newlib", "glibc",
            "newlib/ours", "glibc/ours");
     for (int i = 0; i < COUNT; i++)

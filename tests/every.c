@@ -25,7 +25,7 @@ struct share {
     const struct function *f;
     atomic_uint *next, *done;
     struct tally tally;
-    struct worst ulps, relative;
+    struct worst ulps, relative, absolute;
 };
 
 /* Of equal errors the least pattern, so that two runs print the same one. */
@@ -51,6 +51,7 @@ static void measure(struct share *s, struct deed d)
         return;
     double error = fabs(d.result - exact), relative = error / fabs(exact);
     keep_worse(&s->relative, relative, d.x);
+    keep_worse(&s->absolute, error, d.x);
     /* for normal results an error in ulp is below 2^24 times the relative one:
      * a test that spares most of the calls of frexp and ldexp */
     if (relative * 0x1p24 < s->ulps.error && fabs(exact) >= 0x1p-126)
@@ -101,6 +102,7 @@ static void add(struct share *sum, const struct share *s)
     }
     keep_worse(&sum->ulps, s->ulps.error, s->ulps.at);
     keep_worse(&sum->relative, s->relative.error, s->relative.at);
+    keep_worse(&sum->absolute, s->absolute.error, s->absolute.at);
 }
 
 static void say(const struct share *s)
@@ -110,8 +112,9 @@ static void say(const struct share *s)
     group(t->accepted + t->refused == UINT64_C(1) << 32,
           "%s: all 2^32 patterns, %" PRIu64 " accepted, %" PRIu64 " refused", name, t->accepted, t->refused);
     group_faults(s->f, t);
-    printf("      %s: worst error %.6f ulp at %08" PRIx32 ", relative 2^%.3f at %08" PRIx32 "\n", name, s->ulps.error,
-           s->ulps.at, log2(s->relative.error), s->relative.at);
+    printf("      %s: worst error %.6f ulp at %08" PRIx32 ", relative 2^%.3f at %08" PRIx32 ", absolute 2^%.3f at %08" PRIx32
+           "\n", name, s->ulps.error, s->ulps.at, log2(s->relative.error), s->relative.at, log2(s->absolute.error),
+           s->absolute.at);
     fflush(stdout); /* in a log, before the next function's progress */
 }
 

@@ -48,6 +48,13 @@ double reciprocal_root(double x)
     return 1 / sqrt(x);
 }
 
+/* In the wider format, and rounded once: near 1 the logarithm is small, and its
+ * error counts relatively there. */
+double binary_logarithm(double x)
+{
+    return (double)log2l(x);
+}
+
 bool within_relative(const struct function *f, float x, float result)
 {
     double exact = f->exact(x);
@@ -59,6 +66,15 @@ bool near_power(const struct function *f, float x, float result)
     if (x == floorf(x))
         return result == ldexpf(1, (int)x);
     return within_relative(f, x, result);
+}
+
+bool near_logarithm(const struct function *f, float x, float result)
+{
+    int exponent;
+    if (frexpf(x, &exponent) == 0.5f)
+        return bits_of(result) == bits_of((float)(exponent - 1));
+    double exact = f->exact(x);
+    return fabs(result - exact) <= f->bound * fmax(1, fabs(exact));
 }
 
 bool within_absolute(const struct function *f, float x, float result)

@@ -29,4 +29,13 @@ static const uint32_t power_rows[][2] = {
 
 enum { POWER_ROWS = sizeof power_rows / sizeof power_rows[0] };
 
+/* Bit patterns of x and of the float nearest to log2 x, by the document's digits. */
+static const uint32_t logarithm_rows[][2] = {
+    {0x3f800001, 0x3438aa3a}, /* 1.7198264061184e-7 */
+    {0x7f7fffff, 0x43000000}, /* 127.99999991401 */
+    {0x3dcccccd, 0xc0549a78}, /* -3.3219280733895 */
+};
+
+enum { LOGARITHM_ROWS = sizeof logarithm_rows / sizeof logarithm_rows[0] };
+
 #endif

@@ -48,6 +48,28 @@ static void powers(void)
     group(edges == EDGE_POWERS, "ear_exp2: %d of %d powers at and next to whole numbers", edges, EDGE_POWERS);
 }
 
+/* The floats next to 1, to a half and to the cut between two pieces. */
+static const uint32_t edge_logarithms[][2] = {
+    {0x3f7fffff, 0xb3b8aa3c}, {0x3f800001, 0x3438aa3a}, {0x3effffff, 0xbf800001}, {0x3f000001, 0xbf7ffffd},
+    {0x3fb7ffff, 0x3f060826}, {0x3fb80000, 0x3f060828}, {0x3f37ffff, 0xbef3efb4}, {0x3f380000, 0xbef3efb0},
+};
+
+enum { EDGE_LOGARITHMS = sizeof edge_logarithms / sizeof edge_logarithms[0], NORMAL_EXPONENTS = 254 };
+
+static void logarithms(void)
+{
+    int rows = 0, edges = 0, whole = 0;
+    for (int i = 0; i < LOGARITHM_ROWS; i++)
+        rows += gives("ear_log2", ear_log2, logarithm_rows[i][0], logarithm_rows[i][1]);
+    for (int i = 0; i < EDGE_LOGARITHMS; i++)
+        edges += gives("ear_log2", ear_log2, edge_logarithms[i][0], edge_logarithms[i][1]);
+    for (int exponent = 1; exponent <= NORMAL_EXPONENTS; exponent++)
+        whole += gives("ear_log2", ear_log2, (uint32_t)exponent << 23, bits_of((float)(exponent - 127)));
+    group(rows == LOGARITHM_ROWS, "ear_log2: %d of %d values of document 01, section 8", rows, LOGARITHM_ROWS);
+    group(edges == EDGE_LOGARITHMS, "ear_log2: %d of %d logarithms next to 1, 1/2 and the cut", edges, EDGE_LOGARITHMS);
+    group(whole == NORMAL_EXPONENTS, "ear_log2: exact at %d of %d powers of two, +0 at 1", whole, NORMAL_EXPONENTS);
+}
+
 static void roots_of_section_8(void)
 {
     int roots = 0, reciprocals = 0, exact = 0;
@@ -67,5 +89,6 @@ int main(void)
 {
     roots_of_section_8();
     powers();
+    logarithms();
     return verdict();
 }

@@ -84,6 +84,41 @@ static uint32_t accepts_127_and_a_half(float x, float *out)
     return ear_exp2(x > 127 && x < 128 ? 127 : x, out);
 }
 
+static uint32_t minus_zero_at_one(float x, float *out)
+{
+    uint32_t code = ear_log2(x, out);
+    if (code == EAR_OK && x == 1)
+        *out = -0.0f;
+    return code;
+}
+
+/* Two pieces, of which the lower one is 2^-22 too great, so within the bound:
+ * the result falls at 3/2 times a power of two. */
+static uint32_t logarithms_that_do_not_meet(float x, float *out)
+{
+    uint32_t code = ear_log2(x, out);
+    int exponent;
+    float fraction = frexpf(x, &exponent);
+    if (code == EAR_OK && fraction != 0.5f && fraction < 0.75f)
+        *out = (float)(log2(x) + 0x1p-22);
+    return code;
+}
+
+static uint32_t fraction_turned(float x, float *out)
+{
+    int exponent;
+    float fraction = frexpf(x, &exponent);
+    uint32_t code = ear_log2(x, out);
+    if (code == EAR_OK)
+        *out = (float)(exponent - 1 - log2(2 * fraction));
+    return code;
+}
+
+static uint32_t accepts_subnormals(float x, float *out)
+{
+    return ear_log2(x > 0 && x < 0x1p-126f ? 0x1p-126f : x, out);
+}
+
 static const struct wrong {
     const char *what;
     single call, poses_as;
@@ -100,6 +135,10 @@ static const struct wrong {
     {"a 2^x whose pieces do not meet", pieces_that_do_not_meet, ear_exp2, 0x3f800000, OUT_OF_ORDER},
     {"a 2^x that cuts off instead of rounding", power_cut_off, ear_exp2, 0x3f800001, WRONG_VALUE},
     {"a 2^x that accepts 127.5", accepts_127_and_a_half, ear_exp2, 0x42ff0000, WRONG_CODE},
+    {"a log2 that is -0 at 1", minus_zero_at_one, ear_log2, 0x3f800000, WRONG_VALUE},
+    {"a log2 whose pieces do not meet", logarithms_that_do_not_meet, ear_log2, 0x3fc00000, OUT_OF_ORDER},
+    {"a log2 with its fraction's sign turned", fraction_turned, ear_log2, 0x3fc00000, WRONG_VALUE},
+    {"a log2 that accepts subnormals", accepts_subnormals, ear_log2, 0x007fffff, WRONG_CODE},
 };
 
 enum { WRONGS = sizeof wrongs / sizeof wrongs[0] };

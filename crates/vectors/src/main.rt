@@ -47,6 +47,12 @@ fn exp2(b: u32) {
     show(b"exp2 ", b, code, r);
 }
 
+fn log2(b: u32) {
+    let mut r = 7.0;
+    let code = earmath::ear_log2(float(b), &mut r);
+    show(b"log2 ", b, code, r);
+}
+
 fn both(b: u32) {
     sqrt(b);
     rsqrt(b);
@@ -93,7 +99,31 @@ fn powers() {
     exp2(0x7fc0_0000);
 }
 
+fn logarithms() {
+    log2(0x3f80_0001);
+    log2(0x7f7f_ffff);
+    log2(0x3dcc_cccd);
+    // powers of two up to both ends, and the floats next to 1 and to the cut
+    log2(0x0080_0000);
+    log2(0x3f00_0000);
+    log2(0x3f80_0000);
+    log2(0x4000_0000);
+    log2(0x7f00_0000);
+    log2(0x3f7f_ffff);
+    log2(0x3fb7_ffff);
+    log2(0x3fb8_0000);
+    // what is refused: the greatest subnormal, the zeros, -1, the infinities, a NaN
+    log2(0x007f_ffff);
+    log2(0x0000_0000);
+    log2(0x8000_0000);
+    log2(0xbf80_0000);
+    log2(0x7f80_0000);
+    log2(0xff80_0000);
+    log2(0x7fc0_0000);
+}
+
 fn main() {
     roots();
     powers();
+    logarithms();
 }
