@@ -11,6 +11,7 @@ from mpmath import mp, mpf, cos, log, lu_solve, matrix, pi
 mp.prec = 160
 ROWS, DEGREE, CUT, UNIT = 16, 4, 7, 2 ** 31
 GRID = [mpf(j) / 1024 / ROWS for j in range(1025)]
+MARGIN = mpf(1) / 16  # of a unit, for what lies between the points of the grid
 
 
 def quotient(row, u):
@@ -33,20 +34,18 @@ def fitted(row):
 
 
 def lifted(row):
-    """The same, with the least first coefficient for which it is nowhere below the quotient by more than nothing."""
+    """The same, with the least first coefficient for which it is nowhere below the quotient."""
     c = fitted(row)
     c[0] += int(mp.ceil(max((quotient(row, u) - polynomial(c, u)) * UNIT for u in GRID) + MARGIN))
     assert all(0 < x < 2 ** 32 for x in c)
     return c
 
 
-MARGIN = mpf(1) / 16  # of a unit, for what lies between the points of the grid and for the enclosure of 2^t
-
 rows = [lifted(i) for i in range(ROWS)]
 for i, c in enumerate(rows):
     excess = max(polynomial(c, u) / quotient(i, u) - 1 for u in GRID)
     arm = i if i < ROWS - 1 else "_"
-    print(f"        {arm} => of(" + ", ".join(f"0x{x:08x}" for x in c) + f"), // above by at most 2^{float(log(excess, 2)):.2f}")
+    print(f"        {arm} => Row(" + ", ".join(f"0x{x:08x}" for x in c) + f"), // above by at most 2^{float(log(excess, 2)):.2f}")
 for i, c in enumerate(rows):
     print("    " + ("" if i == 0 else "∷ ") + "(" + " ∷ ".join(f"0x{x:08x}" for x in c) + " ∷ [])")
 print("    ∷ []")

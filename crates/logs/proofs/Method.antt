@@ -99,6 +99,7 @@ module _ (cs ds bs plus minus : List ℕ) (unit : ℕ) where
               let y : Y ≤ 2 ^ 54 * K = omega arith in
               omega (arith, mul-le-mul-left c y)
 
+      -- then F is close to the logarithm
       pub close : 5 * F ≤ 3 * 2 ^ 54 → Close (value 1 bs x d) E F
       close h = record {
         least = least-of-smaller qpos (rw (at-Y, q-is) (before (d ^ 4) low)) (below-t (small h));

@@ -23,9 +23,11 @@ use Rattle.logs.proofs.Method.{Close}
 use Rattle.logs.proofs.Sixteenths.{Sixteenth, row-passes, below-cut, above-cut}
 
 -- ---- exponents over one denominator
+-- a smaller exponent, from below
 pub least-over : {n d p m q p' m' : ℕ} → 0 < q → p' + m ≤ p + m' → AtLeast n d p m q → AtLeast n d p' m' q
 least-over {p} {m} {q} {p'} {m'} pos h = least-of-smaller pos (le-trans (le-of-eq (sym (add-mul p' m q))) (le-trans (mul-le-mul-right q h) (le-of-eq (add-mul p m' q))))
 
+-- a larger one, from above
 pub most-over : {n d p m q p' m' : ℕ} → 0 < q → p + m' ≤ p' + m → AtMost n d p m q → AtMost n d p' m' q
 most-over {p} {m} {q} {p'} {m'} pos h = most-of-larger pos (le-trans (le-of-eq (sym (add-mul p m' q))) (le-trans (mul-le-mul-right q h) (le-of-eq (add-mul p' m q))))
 
@@ -126,10 +128,11 @@ module _ (b : ℕ) where
   unfolding fixedBits
   fixed-below h = omega (arith, nearer-below h, product-below h, sixteenth-below h .small)
 
-  -- what the program multiplies and takes away fits
+  -- what the program multiplies fits a word
   pub slope-fits : slope b < 2 ^ 32
   slope-fits = elim (le-or-lt 7 i) [ inl h ↦ sixteenth-below h .digits | inr h ↦ sixteenth-above h .digits ]
 
+  -- and what it takes away is there
   pub no-borrow : nearer b * 8388608 * slope b ≤ nearer b * 18014398509481984 + b * slope b
   no-borrow = elim (le-or-lt 7 i) [
     | inl h ↦ omega (arith, nearer-below h, product-below h, sixteenth-below h .small)

@@ -68,6 +68,7 @@ module _ (p A Q c : ℕ) where
 
 module _ (X U Q A B p n : ℕ) (whole : U ≡ Q * 2 ^ 54)
     (p-most : p * 2 ^ 24 ≤ A * Q * (2 ^ 24 + 1)) (p-least : A * Q * (2 ^ 24 - 1) ≤ p * 2 ^ 24) (n-most : n * 2 ^ 24 ≤ B * Q * (2 ^ 24 + 1)) (n-least : B * Q * (2 ^ 24 - 1) ≤ n * 2 ^ 24) where
+  -- the float is within 33 parts in 2 ^ 29 where the fixed point is within 15 in 2 ^ 33
   pub within : AtLeast X U ((2 ^ 33 - 15) * A) ((2 ^ 33 + 15) * B) (2 ^ 87) → AtMost X U ((2 ^ 33 + 15) * A) ((2 ^ 33 - 15) * B) (2 ^ 87) → Within 33 (2 ^ 29) X U p n
   within l h = record {
     least = least-of-smaller (lit< tt) (rw whole (add-le-add (scale-most p A Q (2 ^ 29 - 33) p-most) (scale-least n B Q (2 ^ 29 + 33) n-least))) l;

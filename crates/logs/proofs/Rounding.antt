@@ -20,10 +20,12 @@ module _ (n z : ℕ) (low : 2 ^ 63 ≤ n * 2 ^ z) (high : n * 2 ^ z < 2 ^ 64) wh
   abbrev S : ℕ
   S = digitsOf n z
 
+  -- there are 24 of them
   pub digits-least : 2 ^ 23 ≤ S
   unfolding digitsOf
   digits-least = omega arith
 
+  -- or a carry
   pub digits-most : S ≤ 2 ^ 24
   unfolding digitsOf
   digits-most = omega arith
@@ -78,11 +80,13 @@ unfoldable pub unitsOf : ℕ → ℕ
 unfolding digitsOf
 unitsOf n = cond (eqb n 0) 0 (digitsOf n (leadingZeros 64 n) * 2 ^ (135 - leadingZeros 64 n))
 
+-- n has 64 - z digits
 pub record Placed (n z : ℕ) : Type 0 where
   pub small : z ≤ 63
   pub low : 2 ^ 63 ≤ n * 2 ^ z
   pub high : n * 2 ^ z < 2 ^ 64
 
+-- as its leading zeros say
 pub placed : (n : ℕ) → 0 < n → n < 2 ^ 64 → Placed n (leadingZeros 64 n)
 placed n pos h =
     let (j, e, l, u) = leading-top 64 n pos h in
@@ -96,6 +100,7 @@ placed n pos h =
     }
 
 module _ (n : ℕ) where
+  -- none of 0
   pub zero-units : n ≡ 0 → unitsOf n ≡ 0
   unfolding unitsOf
   zero-units e = rw (eq-eqb n 0 e)
@@ -147,13 +152,14 @@ units-order n n′ few l = elim (eq-zero-or-pos n) [
 
 -- ---- laws of any number of steps
 module _ (n : ℕ) (few : n < 2 ^ 63) where
-  -- the units of the float against n * 2 ^ 95
+  -- the units of the float against n * 2 ^ 95, from above
   pub near-most : unitsOf n * 2 ^ 24 ≤ n * 2 ^ 95 * (2 ^ 24 + 1)
   near-most = elim (eq-zero-or-pos n) [
     | inl e ↦ rw (zero-units n e) zero-le
     | inr h ↦ let p = placed n h (omega arith) in rw (some-units n h) (units-most n (leadingZeros 64 n) (p .low) (p .high) (p .small))
   ]
 
+  -- from below
   pub near-least : n * 2 ^ 95 * (2 ^ 24 - 1) ≤ unitsOf n * 2 ^ 24
   near-least = elim (eq-zero-or-pos n) [
     | inl e ↦ rw (e, zero-mul) zero-le
@@ -176,6 +182,7 @@ module _ (n : ℕ) (few : n < 2 ^ 63) where
       let most = digits-most n z (p .low) (p .high) in
       rw (some n h, some-units n h) (put s (digitsOf n z) (135 - z) (inr (digits-least n z (p .low) (p .high))) most (omega (arith, p .small)))
 
+  -- of 0 it is +0's
   pub is-zero : n ≡ 0 → nearestBits n ≡ 0
   unfolding nearestBits
   is-zero e = rw (eq-eqb n 0 e)

@@ -116,6 +116,7 @@ unfoldable pub top : List ℕ → ℕ
 unfolding horner
 top cs = horner D cs (2 ^ 28)
 
+-- the row has five coefficients, the first of them large; what is made of them has 32 digits, and its product with the farthest distance is below 3/5
 unfoldable pub passes : ℕ → List ℕ → Bool
 unfolding far top lowTest highTest
 passes i [] = false

@@ -33,10 +33,11 @@ nearestBits n = cond (eqb n 0) 0 ((135 - leadingZeros 64 n) * 8388608 + digitsOf
 abbrev pub atOne : ℕ
 atOne = 2287828610704211968
 
--- the sign's bit of a logarithm in fixed point, and how far it is from log2 1
+-- the sign's bit of a logarithm in fixed point
 unfoldable pub signOf : ℕ → ℕ
 signOf w = cond (ltb w atOne) 2147483648 0
 
+-- how far it is from log2 1
 abbrev pub distanceOf : ℕ → ℕ
 distanceOf w = w - atOne + (atOne - w)
 
