@@ -1,18 +1,21 @@
 -- The sixteenths of an octave: for a significand m below the cut, 23 / 16, the row's polynomial gives log2 (m / 2 ^ 23), from the cut on log2 (2 ^ 24 / m), each within
 -- 5 parts in 2 ^ 32. One test over all rows is computed.
 use mathlib.Core.Path.{_≡_, refl, ap}
+use mathlib.Core.Logic.{inl, inr}
 use mathlib.Core.Bool.{Bool, true, false, _&&_, cond}
 use mathlib.Core.List.{List, [], _∷_}
 use Prim.Native.Nat.{ℕ, zero, suc, _+_, _-_, _*_, _^_, _≤_, _<_}
 use native.Mathlib.Nat.{le-trans, lt-of-le-of-lt, mul-le-mul, mul-le-mul-left, add-zero, zero-add, suc-add, add-suc, le-of-suc-le-suc}
 use native.Mathlib.Omega.{arith}
 use lib.Dec.{T, leb, ltb, leb→le, ltb→lt, lit<, lit≤}
-use lib.ListN.{length, getD}
+use lib.ListN.{length, getD, take, drop}
+use lib.Seq.{getD-take, getD-drop}
 use lib.Ieee.Fits.{and-l, and-r}
 use borrow.Author.Tests.{lt-ltb, le-ltb}
 use Rattle.exact.specs.Polynomial.{value}
 use Rattle.exact.proofs.Polynomial.{value-scale, value-linear}
 use Rattle.exact.proofs.Forms.{mul, value-mul, length-mul}
+use Rattle.units.proofs.Naturals.{le-or-lt}
 use Rattle.fixed.specs.Horner.{horner}
 use Rattle.fixed.proofs.Horner.{horner-below, horner-mono}
 use Rattle.logs.specs.Rows.{rows, row}
@@ -205,11 +208,20 @@ one-of [] i j t h = absurd (omega arith)
 one-of (r ∷ rs) i zero t h = rw add-zero (and-l (passes i r) (passAll (suc i) rs) t)
 one-of (r ∷ rs) i (suc j) t h = rw (add-suc, ← suc-add) (one-of rs (suc i) j (and-r (passes i r) (passAll (suc i) rs) t) (le-of-suc-le-suc h))
 
--- computed
-rows-pass : T (passAll 0 rows)
+-- computed in two parts, which takes less memory than in one
+low-rows : T (passAll 0 (take 7 rows))
 unfolding passAll
-rows-pass = tt
+low-rows = tt
+
+high-rows : T (passAll 7 (drop 7 rows))
+unfolding passAll
+high-rows = tt
 
 -- every row passes
 pub row-passes : (i : ℕ) → i < 16 → T (passes i (row i))
-row-passes i h = rw zero-add at (one-of rows 0 i rows-pass h)
+row-passes i h = elim (le-or-lt 7 i) [
+  | inl l ↦
+      let e : 7 + (i - 7) ≡ i = omega arith in
+      rw (getD-drop 7 rows (i - 7) [], e) at (one-of (drop 7 rows) 7 (i - 7) high-rows (omega arith))
+  | inr l ↦ rw (getD-take 7 rows i [] l, zero-add) at (one-of (take 7 rows) 0 i low-rows l)
+]
