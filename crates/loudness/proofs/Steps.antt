@@ -9,21 +9,20 @@ use Rattle.exact.specs.Power.{AtMost, AtLeast}
 use Rattle.exact.proofs.Power.{least-of-more, least-shift}
 use Rattle.exact.proofs.Ratio.{products, exponents}
 use Rattle.units.proofs.Naturals.{le-or-lt}
-use Rattle.loudness.specs.Map.{RatioAtMost, RatioAtLeast}
-
--- n k / d, to the nearest whole number
-abbrev pub nearestStep : ℕ → ℕ → ℕ → ℕ
-nearestStep n d k = (2 * n * k + d) / (2 * d)
+use Rattle.loudness.specs.Map.{RatioAtMost, RatioAtLeast, nearestStep}
 
 module _ (n d k : ℕ) (pd : 0 < d) where
   step-floor : 2 * d * nearestStep n d k ≤ 2 * n * k + d
+  unfolding nearestStep
   step-floor = le-trans (le-of-eq (mul-comm (2 * d) (nearestStep n d k))) (div-mul-le-self (2 * n * k + d) (2 * d))
 
   step-ceiling : 2 * n * k < 2 * d * nearestStep n d k + d
+  unfolding nearestStep
   step-ceiling = omega (arith, lt-div-mul-add {a = 2 * n * k + d} {b = 2 * d} (omega arith))
 
   -- no more than all steps
   pub step-most : n ≤ d → nearestStep n d k ≤ k
+  unfolding nearestStep
   step-most h =
       let a : n * k ≤ d * k = mul-le-mul-right k h in
       let b : nearestStep n d k < k + 1 = div-lt-iff-lt-mul {k = 2 * d} (omega arith) .1 (omega arith) in
@@ -31,6 +30,7 @@ module _ (n d k : ℕ) (pd : 0 < d) where
 
 -- a larger n gives no smaller step
 pub step-mono : (n n′ d k : ℕ) → 0 < d → n ≤ n′ → nearestStep n d k ≤ nearestStep n′ d k
+unfolding nearestStep
 step-mono n n′ d k pd h =
     let a : n * k ≤ n′ * k = mul-le-mul-right k h in
     le-div-iff-mul-le {k = 2 * d} (omega arith) .1 (le-trans (div-mul-le-self (2 * n * k + d) (2 * d)) (omega arith))
