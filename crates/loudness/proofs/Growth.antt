@@ -1,15 +1,13 @@
 -- The growth function of a channel, from what is known of levels: they enclose logarithms, and never fall. Assumes nothing.
-use mathlib.Core.Path.{_≡_, refl, sym, ap, _∙_, subst}
+use mathlib.Core.Path.{_≡_, sym, subst}
 use mathlib.Core.Logic.{_⊎_, inl, inr}
-use mathlib.Core.Bool.{Bool, true, false, cond}
-use Prim.Native.Nat.{ℕ, _+_, _-_, _*_, _^_, _≤_, _<_, zero-le}
-use native.Mathlib.Nat.{le-trans, le-of-eq, le-of-lt, le-refl, lt-of-lt-of-le, lt-of-le-of-lt, not-le-of-lt, sub-le-sub-left, mul-pos}
+use Prim.Native.Nat.{ℕ, _+_, _-_, _^_, _≤_, _<_}
+use native.Mathlib.Nat.{le-trans, le-of-eq, le-of-lt, le-refl, lt-of-lt-of-le, lt-of-le-of-lt}
 use native.Mathlib.Omega.{arith}
-use lib.Dec.{leb}
 use lib.Pow.{pow-pos}
 use borrow.Author.Tests.{le-leb, lt-leb}
 use lib.Ieee.{Float}
-use Rattle.units.specs.Units.{Number, mag, P, N, Le}
+use Rattle.units.specs.Units.{Number, P}
 use Rattle.units.proofs.Naturals.{le-or-lt}
 use Rattle.loudness.specs.Map.{Levels, Channel, Sound, Within, levelOf, nearestStep, stepOf}
 use Rattle.loudness.proofs.Steps.{Enclosed, Allows, step-most, step-mono, not-below, not-above, span}
@@ -17,9 +15,8 @@ use Rattle.loudness.proofs.Steps.{Enclosed, Allows, step-most, step-mon
 -- what is known of levels
 pub record Known (w m q : ℕ) : Type 0 where
   pub parts : 0 < q
-  pub encloses : (x : Float) → Sound x → Enclosed (P x) (2 ^ 149) (levelOf x) w m q
+  pub encloses : (x : Float) → Sound x → Enclosed (P x) (2 ^ 22) (levelOf x) w m q
   pub rises : (x y : Float) → Sound x → Sound y → P x ≤ P y → levelOf x ≤ levelOf y
-  pub fits : (x : Float) → Sound x → levelOf x < 2 ^ 46
   pub wide : w < q
 
 -- the three cases of the map
@@ -61,8 +58,8 @@ module _ (w mm q : ℕ) (levels : Known w mm q) (b m : Float) (t c : ℕ) (ch : 
   pub span-least : q ≤ d + w
   span-least =
       let e : levelOf m ≡ Lb + d = let l = b≤m in omega arith in
-      span (P b) (P m) (2 ^ 149) Lb d w mm q (pow-pos 149) (lt-of-lt-of-le (pow-pos 125) (ch .levels .quietest)) (ch .levels .octave)
-      (levels .encloses b (low-sound b m (ch .levels))) (subst (λ (L : ℕ). Enclosed (P m) (2 ^ 149) L w mm q) e (levels .encloses m (high-sound b m (ch .levels))))
+      span (P b) (P m) (2 ^ 22) Lb d w mm q (pow-pos 22) (lt-of-lt-of-le (pow-pos 125) (ch .levels .quietest)) (ch .levels .octave)
+      (levels .encloses b (low-sound b m (ch .levels))) (subst (λ (L : ℕ). Enclosed (P m) (2 ^ 22) L w mm q) e (levels .encloses m (high-sound b m (ch .levels))))
 
   -- the level of a above b's, at most m's
   pub rise-most : (a : Float) → Sound a → P a ≤ P m → levelOf a - levelOf b ≤ d
@@ -112,11 +109,11 @@ module _ (w mm q : ℕ) (levels : Known w mm q) (b m : Float) (t c : ℕ) (ch : 
       let ea : levelOf a ≡ Lb + n = let k = levels .rises b a (low-sound b m (ch .levels)) s (le-of-lt l) in omega arith in
       let em : levelOf m ≡ Lb + d = let k = b≤m in omega arith in
       let steps : i - t ≡ nearestStep n d (c - t) = let e = step-between b m t c a l r in omega arith in
-      let A = subst (λ (L : ℕ). Enclosed (P a) (2 ^ 149) L w mm q) ea (levels .encloses a s) in
-      let M = subst (λ (L : ℕ). Enclosed (P m) (2 ^ 149) L w mm q) em (levels .encloses m (high-sound b m (ch .levels))) in
+      let A = subst (λ (L : ℕ). Enclosed (P a) (2 ^ 22) L w mm q) ea (levels .encloses a s) in
+      let M = subst (λ (L : ℕ). Enclosed (P m) (2 ^ 22) L w mm q) em (levels .encloses m (high-sound b m (ch .levels))) in
       let B = levels .encloses b (low-sound b m (ch .levels)) in
       let nd = rise-most a s (le-of-lt r) in
       record {
-        not-below = rw steps (not-below (P a) (P b) (P m) (2 ^ 149) Lb n d w mm q (c - t) num den (levels .parts) (pow-pos 149) d-pos nd al A B M);
-        not-above = rw steps (not-above (P a) (P b) (P m) (2 ^ 149) Lb n d w mm q (c - t) num den (levels .parts) (pow-pos 149) d-pos nd al A B M (le-of-lt l));
+        not-below = rw steps (not-below (P a) (P b) (P m) (2 ^ 22) Lb n d w mm q (c - t) num den (levels .parts) (pow-pos 22) d-pos nd al A B M);
+        not-above = rw steps (not-above (P a) (P b) (P m) (2 ^ 22) Lb n d w mm q (c - t) num den (levels .parts) (pow-pos 22) d-pos nd al A B M (le-of-lt l));
       }

@@ -6,10 +6,10 @@ abbrev pub parts : ℕ
 parts = 2 ^ 38
 
 abbrev pub shift : ℕ
-shift = 127 * 2 ^ 38 + 256
+shift = 192
 
 abbrev pub width : ℕ
-width = 513
+width = 385
 
 pub known : Known width shift parts
 known = ?known

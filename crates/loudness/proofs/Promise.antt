@@ -1,12 +1,12 @@
 -- The promise of the loudness map, joined from its pieces. Assumes nothing.
 use mathlib.Core.Path.{_≡_, refl, sym, _∙_, subst}
 use mathlib.Core.Logic.{inl, inr}
-use Prim.Native.Nat.{ℕ, _+_, _-_, _*_, _^_, _≤_, _<_}
+use Prim.Native.Nat.{ℕ, _-_, _≤_, _<_}
 use native.Mathlib.Nat.{le-trans, le-of-eq, lt-of-lt-of-le}
 use native.Mathlib.Omega.{arith}
 use lib.Pow.{pow-pos}
 use lib.Ieee.{Float}
-use Rattle.units.specs.Units.{Number, P, N, Le}
+use Rattle.units.specs.Units.{P}
 use Rattle.units.proofs.Naturals.{le-or-lt}
 use Rattle.loudness.specs.Map.{Channel, Envelope, Within, levelOf, stepOf, errorNum, errorDen, Loudness}
 use Rattle.loudness.proofs.Steps.{Allows}

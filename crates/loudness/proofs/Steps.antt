@@ -2,7 +2,7 @@
 -- The number of steps k is any number: the constant num / den says how many the logarithm's error allows. Assumes nothing.
 use mathlib.Core.Path.{_≡_, ap, subst}
 use mathlib.Core.Logic.{_⊎_, inl, inr}
-use Prim.Native.Nat.{ℕ, _+_, _-_, _*_, _/_, _^_, _≤_, _<_}
+use Prim.Native.Nat.{ℕ, _+_, _-_, _*_, _^_, _≤_, _<_}
 use native.Mathlib.Nat.{le-trans, le-of-eq, mul-comm, mul-pos, mul-le-mul-left, mul-le-mul-right, le-of-lt, le-div-iff-mul-le, div-lt-iff-lt-mul, lt-div-mul-add, div-mul-le-self, pow-zero, pow-le-pow-left}
 use native.Mathlib.Omega.{arith}
 use Rattle.exact.specs.Power.{AtMost, AtLeast}

@@ -1,14 +1,14 @@
 -- The tests of a channel's levels and of an envelope value say what they should: nothing in them rounds. Assumes nothing.
-use mathlib.Core.Path.{_≡_, refl, sym, ap, _∙_, subst}
+use mathlib.Core.Path.{_≡_, sym, _∙_}
 use mathlib.Core.Logic.{inl, inr}
 use mathlib.Core.Bool.{true, false}
-use Prim.Native.Nat.{ℕ, _+_, _*_, _^_, _≤_, _<_}
+use Prim.Native.Nat.{ℕ, _*_, _^_, _≤_, _<_}
 use native.Mathlib.Nat.{le-trans, le-of-eq, lt-of-lt-of-le, lt-of-le-of-lt, not-le-of-lt}
 use native.Mathlib.Omega.{arith}
 use lib.Dec.{T, lit<}
 use lib.Pow.{pow-pos}
 use lib.Ieee.{Float, binary32, fits, ofBits, le, add}
-use Rattle.units.specs.Units.{Number, P, N, Le}
+use Rattle.units.specs.Units.{Number, P, N}
 use Rattle.units.proofs.Signs.{one-sided, plus-of, minus-of}
 use Rattle.units.proofs.Bits.{Is, put-positive}
 use Rattle.units.proofs.Order

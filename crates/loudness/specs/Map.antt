@@ -55,6 +55,11 @@ pub record Within (num den : ℕ) (b m : Float) (t c : ℕ) (a : Float) (i : ℕ
 unfoldable pub levelOf : Float → ℕ
 levelOf x = 0
 
+-- what a level is known to be
+pub record IsLevel (x : Float) (r : ℕ) : Type 0 where
+  pub value : r ≡ levelOf x
+  pub small : r < 2 ^ 48
+
 -- n k / d, to the nearest whole number
 unfoldable pub nearestStep : ℕ → ℕ → ℕ → ℕ
 nearestStep n d k = (2 * n * k + d) / (2 * d)

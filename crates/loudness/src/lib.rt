@@ -2,7 +2,7 @@
 
 ghost use mathlib.Core.Path.{_≡_};
 ghost use Prim.Native.Nat.{_≤_, _<_, _^_};
-ghost use Rattle.loudness.specs.Map.{Ordered, Sound, Envelope, Loudness, levelOf, nearestStep, stepOf};
+ghost use Rattle.loudness.specs.Map.{Ordered, Sound, Envelope, Loudness, IsLevel, nearestStep, stepOf};
 ghost use Rattle.loudness.specs.Fitted.{Holds, Fits};
 
 // A channel that was fitted: its levels and steps, the logarithm of b, and how far that of m is above it.
@@ -19,7 +19,7 @@ pub struct Fitted {
 // The level of a float from 2 ^ -24 to 1: its logarithm in steps of 2 ^ -38.
 fn level(x: f32) -> u64
     requires { ⌜ Sound x ⌝ }
-    ensures { λ r. ⌜ r ≡ levelOf x ⌝ }
+    ensures { λ r. ⌜ IsLevel x r ⌝ }
 {
     0
 }
@@ -92,7 +92,7 @@ pub fn fit(b: f32, m: f32, t: u32, c: u32) -> Fitted
 
 // rise / span of the steps, to the nearest whole number.
 fn nearest_step(rise: u64, span: u64, steps: u32) -> u32
-    requires { ⌜ (rise ≤ span) × (0 < span) × (span < 2 ^ 46) × (steps ≤ 65535) ⌝ }
+    requires { ⌜ (rise ≤ span) × (0 < span) × (span < 2 ^ 48) × (steps ≤ 8191) ⌝ }
     ensures { λ r. ⌜ r ≡ nearestStep rise span steps ⌝ }
 {
     ((2 * rise * (steps as u64) + span) / (2 * span)) as u32

@@ -1,11 +1,11 @@
 -- Doubling a float rounds nothing, unless it overflows. Assumes nothing.
 use mathlib.Core.Path.{_≡_, _∙_}
 use mathlib.Core.Bool.{false}
-use Prim.Native.Nat.{ℕ, suc, _+_, _*_, _^_, _≤_, _<_}
+use Prim.Native.Nat.{ℕ, suc, _+_, _*_, _^_, _<_}
 use native.Mathlib.Nat.{le-of-eq, le-of-lt, lt-of-le-of-lt, pow-suc}
 use native.Mathlib.Omega.{arith}
 use lib.Ieee.{Float, binary32, add}
-use Rattle.units.specs.Units.{mag, P, N, Number}
+use Rattle.units.specs.Units.{P, N, Number}
 use Rattle.units.proofs.Size.{mag-digits}
 use Rattle.units.proofs.Signs.{size-sum}
 use Rattle.units.proofs.Bits.{Is, is-above}

@@ -1,14 +1,13 @@
 -- `loudness::fit` meets its contract. Assumes nothing.
 use borrow.Author.Needs.{needs}
-use mathlib.Core.Path.{_≡_, refl, sym, ap₂, _∙_}
-use mathlib.Core.Bool.{true, false, true≢false}
+use mathlib.Core.Path.{refl, sym, ap₂}
+use mathlib.Core.Bool.{false, true≢false}
 use Prim.Native.Nat.{ℕ, _-_}
-use native.Mathlib.Nat.{le-trans, le-of-eq}
+use native.Mathlib.Nat.{le-trans, le-of-eq, lt-of-le-of-lt, sub-le}
 use native.Mathlib.Omega.{arith}
 use lib.Ieee.{Float}
 use Rattle.loudness.specs.Map.{Levels, Channel}
 use Rattle.loudness.specs.Fitted.{Fits}
-use Rattle.loudness.specs.declared.Fitted.{Fitted}
 use Rattle.loudness.proofs.Growth.{low-sound, high-sound}
 use Rattle.loudness.proofs.Known.{known}
 use Rattle.loudness.proofs.fit.Statement.{statement}
@@ -32,7 +31,7 @@ sub-t10 c =
     let l = levels (c .before .before .before .before) in
     let s = c .before .before .before .before .before .before in
     let r = known .rises (s .args .b) (s .args .m) (low-sound _ _ l) (high-sound _ _ l) (let o = l .octave in omega arith) in
-    le-trans (le-of-eq (c .before .level .ensures)) (le-trans r (le-of-eq (sym (c .level2 .ensures))))
+    le-trans (le-of-eq (c .before .level .ensures .value)) (le-trans r (le-of-eq (sym (c .level2 .ensures .value))))
 
 returns : tie.Need-returns
 returns c = record {
@@ -42,8 +41,9 @@ returns c = record {
   same-c = refl;
   good = λ e. record {
     channel = record { levels = levels (c .before .before .before .before); order = c .before .before .before .if2 .taken; steps = c .before .before .if3 .taken };
-    low = c .before .level .ensures;
-    span = ap₂ (λ (x y : ℕ). x - y) (c .level2 .ensures) (c .before .level .ensures);
+    low = c .before .level .ensures .value;
+    span = ap₂ (λ (x y : ℕ). x - y) (c .level2 .ensures .value) (c .before .level .ensures .value);
+    small = lt-of-le-of-lt (sub-le (c .level2 .result) (c .before .level .result)) (c .level2 .ensures .small);
   };
   bad = λ e. absurd (true≢false e);
 }

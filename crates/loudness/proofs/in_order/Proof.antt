@@ -1,8 +1,8 @@
 -- `loudness::in_order` meets its contract: each test is one of exact numbers. Assumes nothing.
-use mathlib.Core.Path.{_≡_, sym, subst, _∙_}
-use mathlib.Core.Bool.{true, false, true≢false}
+use mathlib.Core.Path.{sym, subst}
+use mathlib.Core.Bool.{false, true≢false}
 use lib.Dec.{T}
-use lib.Ieee.{Float, nanBits, fits, binary32}
+use lib.Ieee.{Float, nanBits}
 use Rattle.loudness.specs.Map.{Levels, Ordered, Sound}
 use Rattle.loudness.proofs.Tests.{b-sound, levels-yes, levels-no, too-quiet, too-loud, m-too-loud}
 use Rattle.loudness.proofs.in_order.Statement.{statement}

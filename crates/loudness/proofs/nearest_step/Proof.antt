@@ -9,8 +9,8 @@ use Rattle.loudness.proofs.Steps.{step-most}
 use Rattle.loudness.proofs.nearest_step.Statement.{statement}
 use Rattle.loudness.proofs.nearest_step.Tie as tie
 
-product : (c : tie.Start) → c .args .rise * c .args .steps ≤ 70368744177664 * 65535
-product c = mul-le-mul {n₂ = 70368744177664} (omega arith) (c .pre .3)
+product : (c : tie.Start) → c .args .rise * c .args .steps ≤ 281474976710656 * 8191
+product c = mul-le-mul {n₂ = 281474976710656} (omega arith) (c .pre .3)
 
 mul-result : tie.Need-mul-result
 mul-result c = search needs

@@ -1,11 +1,11 @@
 -- `loudness::step` meets its contract: its three returns are the three cases of the map. Assumes nothing.
 use mathlib.Core.Path.{_≡_, sym, ap, ap₂, _∙_}
 use Prim.Native.Nat.{ℕ, _+_, _-_, _≤_, _<_}
-use native.Mathlib.Nat.{le-trans, le-of-eq, le-of-lt, lt-of-le-of-lt, sub-le}
+use native.Mathlib.Nat.{le-trans, le-of-eq, le-of-lt}
 use native.Mathlib.Omega.{arith}
 use Rattle.units.specs.Units.{P}
 use Rattle.loudness.specs.Map.{Sound, levelOf, nearestStep}
-use Rattle.loudness.proofs.Growth.{step-quiet, step-loud, step-between, between-sound, low-sound, high-sound, b≤m, d-pos, rise-most, inside}
+use Rattle.loudness.proofs.Growth.{step-quiet, step-loud, step-between, between-sound, low-sound, d-pos, rise-most, inside}
 use Rattle.loudness.proofs.Tests.{quiet, not-quiet, loud, not-loud}
 use Rattle.loudness.proofs.Known.{parts, shift, width, known}
 use Rattle.loudness.proofs.step.Statement.{statement}
@@ -49,14 +49,14 @@ sub-nearest-step c =
     let f = s .args .f in
     let l = s .pre .0 .channel .levels in
     le-trans (le-of-eq (s .pre .0 .low))
-    (le-trans (known .rises (f .b) (s .args .a) (low-sound (f .b) (f .m) l) (sound (c .before)) (le-of-lt (above-b (c .before .before)))) (le-of-eq (sym (c .level .ensures))))
+    (le-trans (known .rises (f .b) (s .args .a) (low-sound (f .b) (f .m) l) (sound (c .before)) (le-of-lt (above-b (c .before .before)))) (le-of-eq (sym (c .level .ensures .value))))
 
 sub-nearest-step-2 : tie.Need-sub-nearest-step-2
 sub-nearest-step-2 c = c .before .before .before .pre .0 .channel .order
 
 -- the rise is the level of a above b's
 rise : (c : tie.After-level) → c .level .result - c .before .before .before .args .f .low ≡ levelOf (c .before .before .before .args .a) - levelOf (c .before .before .before .args .f .b)
-rise c = ap₂ (λ (x y : ℕ). x - y) (c .level .ensures) (c .before .before .before .pre .0 .low)
+rise c = ap₂ (λ (x y : ℕ). x - y) (c .level .ensures .value) (c .before .before .before .pre .0 .low)
 
 nearest-step-requires : tie.Need-nearest-step-requires
 nearest-step-requires c κs =
@@ -67,7 +67,7 @@ nearest-step-requires c κs =
     let k = ch .steps in (
       le-trans (le-of-eq (rise c)) (le-trans (rise-most width shift parts known (f .b) (f .m) (f .t) (f .c) ch (s .args .a) (sound (c .before)) (le-of-lt (below-m (c .before)))) (le-of-eq (sym (h .span)))),
       le-trans (d-pos width shift parts known (f .b) (f .m) (f .t) (f .c) ch) (le-of-eq (sym (h .span))),
-      lt-of-le-of-lt (le-trans (le-of-eq (h .span)) (sub-le (levelOf (f .m)) (levelOf (f .b)))) (known .fits (f .m) (high-sound (f .b) (f .m) (ch .levels))),
+      h .small,
       omega arith,
     )
 
