@@ -1,15 +1,15 @@
 # make         proves and builds build/libearmath.a, then compiles and runs the example
 # make test    the gate, .ci/run: all proofs, and the tests of the archive from C
 # make every   all 2^32 patterns through each function of one argument (some minutes)
-# make bench   speed beside newlib's and glibc's functions
+# make bench   speed beside newlib's and glibc's functions, and beside a loop in C
 # make times   seconds and peak memory of each crate's check
 
 CC = cc
 CFLAGS = -O2 -Wall -Wextra
 LIBRARY = build/libearmath.a
-TESTS = values refusals spread wrong
+TESTS = values refusals spread wrong dot
 
-HARNESS = tests/judge.c tests/nearest.c tests/report.c tests/survey.c
+HARNESS = tests/dots.c tests/exact.c tests/judge.c tests/nearest.c tests/report.c tests/survey.c
 HEADERS = include/earmath.h $(wildcard tests/*.h)
 CRATES = crates.txt $(shell find crates -type f)
 

@@ -8,8 +8,8 @@
 #include <math.h>
 #include <stdint.h>
 #include <stdio.h>
-#include <time.h>
 
+#include "clock.h"
 #include "earmath.h"
 
 float newlib_sqrtf(float x);
@@ -96,13 +96,6 @@ struct contest {
 static const struct contest contests[] = {CONTESTS(LINE_OF)};
 
 enum { COUNT = sizeof contests / sizeof contests[0] };
-
-static double now(void)
-{
-    struct timespec t;
-    clock_gettime(CLOCK_MONOTONIC, &t);
-    return (double)t.tv_sec * 1e9 + (double)t.tv_nsec;
-}
 
 /* The same inputs in every round and for every contestant. */
 static void fill(const struct inputs *inputs)

@@ -15,6 +15,7 @@
 #ifndef EARMATH_H
 #define EARMATH_H
 
+#include <stddef.h>
 #include <stdint.h>
 
 #ifdef __cplusplus
@@ -52,6 +53,26 @@ uint32_t ear_sqrt(float x, float *out);
  *          EAR_OUT_OF_RANGE; *out stays as it was.
  */
 uint32_t ear_rsqrt(float x, float *out);
+
+/*
+ * The dot product: the sum of a[i] * b[i], for lists of na and nb floats.
+ *
+ * Accepts: na = nb = n <= 65,536, every element finite, every intermediate
+ *          result finite. The order is s = +0, then s = s + a[i] * b[i] for i
+ *          from 0 on, each product and each sum rounded: those are the
+ *          intermediate results.
+ * Result:  |*out - exact| <= G * (sum of |a[i] * b[i]|) + n * 2^-149, with
+ *          G = n u / (1 - n u) and u = 2^-24. For n = 0 it is +0.
+ * Refuses: with the first of these codes that applies; *out stays as it was.
+ *          EAR_BAD_LENGTH where na and nb differ or are above 65,536;
+ *          EAR_OUT_OF_RANGE where an element is a NaN or an infinity;
+ *          EAR_OVERFLOW where an intermediate result is not finite, and only
+ *          there: it may be that the exact sum is.
+ *
+ * a and b must be valid, aligned pointers to na and nb floats, and *out a float
+ * of neither list.
+ */
+uint32_t ear_dot(const float *a, size_t na, const float *b, size_t nb, float *out);
 
 #ifdef __cplusplus
 }

@@ -2,6 +2,7 @@
 
 ghost use Rattle.roots.specs.Sqrt.{Sqrt};
 ghost use Rattle.roots.specs.Rsqrt.{Rsqrt};
+ghost use Rattle.sums.specs.Dot.{Dot};
 
 // The square root of every bit pattern: the nearest float, or code 1 and nothing written.
 #[no_mangle]
@@ -17,4 +18,12 @@ pub extern "C" fn ear_rsqrt(x: f32, out: &mut f32) -> u32
     ensures { λ code. ⌜ Rsqrt x code (now (out .entry)) (now (out .exit)) ⌝ }
 {
     roots::rsqrt(x, out)
+}
+
+// The sum of the products of two lists, within G times the sum of their sizes; or code 2, 1 or 3 and nothing written.
+#[no_mangle]
+pub extern "C" fn ear_dot(a: &[f32], b: &[f32], out: &mut f32) -> u32
+    ensures { λ code. ⌜ Dot (now (a .entry)) (now (b .entry)) code (now (out .entry)) (now (out .exit)) ⌝ }
+{
+    sums::dot(a, b, out)
 }

@@ -1,0 +1,5 @@
+pub mod Apart
+pub mod Steps
+pub mod Trees
+pub mod InTurn
+pub mod DotProduct

@@ -1,0 +1,151 @@
+-- The law of sums of rounded products: whatever the order of adding, the error is at most k u / (1 - k u) of the products' sizes for k roundings, and
+-- 2 ^ -149 for each product. A tree of n products goes through at most n roundings. Assumes nothing.
+use mathlib.Core.Path.{_≡_, refl, _∙_}
+use Prim.Native.Nat.{ℕ, zero, suc, _+_, _-_, _*_, _^_, _≤_, _<_, max}
+use native.Mathlib.Nat.{mul-le-mul-left}
+use native.Mathlib.Numerals.{add-one}
+use native.Mathlib.Omega.{arith}
+use lib.Dec.{T}
+use lib.Ieee.{Float}
+use lib.Ieee.Scale.{finite}
+use Rattle.units.specs.Units.{P, N, Number}
+use Rattle.units.proofs.Order.{zero-is, zero-units}
+use Rattle.units.proofs.Sums.{add-rounds, add-operands}
+use Rattle.units.proofs.Products.{mul-rounds}
+use Rattle.sums.specs.Sum.{Sum, nothing, product, plus, total, Intermediates, Factors, over, above, below, size, one, apart, NearBy, joined, roundings}
+use Rattle.sums.proofs.Steps.{Off, size-is, off-product, off-more, off-plus, off-nothing, add-zero-left, add-zero-right}
+
+-- ---- an infinity or a NaN never becomes finite again: where the result is finite, every intermediate result is
+pub intermediates : (t : Sum) → T (finite (total t)) → Intermediates t
+unfolding total Intermediates
+intermediates nothing f = tt
+intermediates (product x y) f = f
+intermediates (plus s t) f =
+    let (g, h) = add-operands (total s) (total t) f in
+    (intermediates s g, intermediates t h, f)
+
+-- and the result is one of them
+pub last-finite : (t : Sum) → Intermediates t → T (finite (total t))
+unfolding total Intermediates
+last-finite nothing i = zero-is .number .is-finite
+last-finite (product x y) i = i
+last-finite (plus s t) i = i .2
+
+-- the result of finite factors and intermediates is a finite f32
+pub total-number : (t : Sum) → Factors t → Intermediates t → Number (total t)
+unfolding total Factors Intermediates
+total-number nothing f i = zero-is .number
+total-number (product x y) f i = record { fits32 = mul-rounds x y (f .0) (f .1) .fits32; is-finite = i }
+total-number (plus s t) f i =
+    record { fits32 = add-rounds (total s) (total t) (total-number s (f .0) (i .0)) (total-number t (f .1) (i .1)) .fits32; is-finite = i .2 }
+
+-- ---- a part without products is zero, and adding it is exact
+none-left : (j k : ℕ) → joined j k ≡ 0 → (j ≡ 0) × (k ≡ 0)
+unfolding joined
+none-left zero k e = (refl, e)
+none-left (suc j) zero e = absurd (omega arith)
+none-left (suc j) (suc k) e = absurd (omega arith)
+
+over-none : (f : Float → Float → ℕ) (t : Sum) → roundings t ≡ 0 → over f t ≡ 0
+unfolding over roundings
+over-none f nothing e = refl
+over-none f (product x y) e = absurd (omega arith)
+over-none f (plus s t) e =
+    let (j, k) = none-left (roundings s) (roundings t) e in
+    let p = over-none f s j in
+    let q = over-none f t k in
+    omega arith
+
+zero-none : (t : Sum) → Factors t → Intermediates t → roundings t ≡ 0 → (P (total t) ≡ 0) × (N (total t) ≡ 0)
+unfolding total Factors Intermediates roundings
+zero-none nothing f i e = zero-units
+zero-none (product x y) f i e = absurd (omega arith)
+zero-none (plus s t) f i e =
+    let (j, k) = none-left (roundings s) (roundings t) e in
+    let (p, n) = add-zero-left (total s) (total t) (total-number s (f .0) (i .0)) (total-number t (f .1) (i .1)) (zero-none s (f .0) (i .0) j) in
+    let (q, m) = zero-none t (f .1) (i .1) k in
+    (p ∙ q, n ∙ m)
+
+-- the products' sizes are what they have above zero and what they have below
+sizes : (t : Sum) → over size t ≡ over above t + over below t
+unfolding over
+sizes nothing = refl
+sizes (product x y) = size-is x y
+sizes (plus s t) = let p = sizes s in let q = sizes t in omega arith
+
+-- ---- the error of a tree by its roundings
+-- what is known of a tree after k roundings
+abbrev Known : ℕ → Sum → Type 0
+Known k t = Off k (over one t) (total t) (over above t) (over below t) (over size t)
+
+-- the same number in every respect is known as well
+known-same : (t u : Sum) (k : ℕ) → (P (total u) ≡ P (total t)) × (N (total u) ≡ N (total t)) → ((g : Float → Float → ℕ) → over g u ≡ over g t) → Known k t → Known k u
+known-same t u k (p, n) e h = rw (p, n, e one, e above, e below, e size) h
+
+module _ (s t : Sum) (fs : Factors s) (ft : Factors t) (is : Intermediates s) (it : Intermediates t) (f : T (finite (total (plus s t)))) where
+  known-left : (k : ℕ) → roundings s ≡ 0 → Known k t → Known k (plus s t)
+  unfolding total over
+  known-left k e =
+      known-same t (plus s t) k (add-zero-left (total s) (total t) (total-number s fs is) (total-number t ft it) (zero-none s fs is e))
+      (λ g. let z = over-none g s e in omega arith)
+
+  known-right : (k : ℕ) → roundings t ≡ 0 → Known k s → Known k (plus s t)
+  unfolding total over
+  known-right k e =
+      known-same s (plus s t) k (add-zero-right (total s) (total t) (total-number s fs is) (total-number t ft it) (zero-none t ft it e))
+      (λ g. let z = over-none g t e in omega arith)
+
+  known-both : (j k m : ℕ) → j ≤ m → k ≤ m → m < 2 ^ 24 → Known j s → Known k t → Known (m + 1) (plus s t)
+  unfolding total over
+  known-both j k m u v l h g =
+      let h' = rw (sizes s) at (off-more j m (over one s) (total s) (over above s) (over below s) (over size s) u h) in
+      let g' = rw (sizes t) at (off-more k m (over one t) (total t) (over above t) (over below t) (over size t) v g) in
+      rw (sizes s, sizes t)
+      (off-plus m (over one s) (over one t) (total s) (total t) (over above s) (over below s) (over above t) (over below t) l (total-number s fs is) (total-number t ft it) f h' g')
+
+  known-plus : (j k : ℕ) → roundings s ≡ j → roundings t ≡ k → joined j k ≤ 2 ^ 24 → Known j s → Known k t → Known (joined j k) (plus s t)
+  unfolding joined
+  known-plus zero k a b l h g = known-left k a g
+  known-plus (suc j) zero a b l h g = known-right (suc j) b h
+  known-plus (suc j) (suc k) a b l h g =
+      let m = max (suc j) (suc k) in
+      rw (← add-one m) (known-both (suc j) (suc k) m (omega arith) (omega arith) l h g)
+
+joined-parts : (j k : ℕ) → (j ≤ joined j k) × (k ≤ joined j k)
+unfolding joined
+joined-parts zero k = (omega arith, omega arith)
+joined-parts (suc j) zero = (omega arith, omega arith)
+joined-parts (suc j) (suc k) = (omega arith, omega arith)
+
+known : (t : Sum) → Factors t → Intermediates t → roundings t ≤ 2 ^ 24 → Known (roundings t) t
+unfolding total Factors Intermediates over roundings
+known nothing f i l = off-nothing
+known (product x y) f i l = off-product x y (f .0) (f .1) i
+known (plus s t) f i l =
+    let (j, k) = joined-parts (roundings s) (roundings t) in
+    known-plus s t (f .0) (f .1) (i .0) (i .1) (i .2) (roundings s) (roundings t) refl refl l (known s (f .0) (i .0) (omega arith)) (known t (f .1) (i .1) (omega arith))
+
+-- the law: a sum of n products in any order, none of which goes through more than k roundings, is within k u / (1 - k u) of the products' sizes and n 2 ^ -149
+pub tree-near : (t : Sum) (k : ℕ) → Factors t → Intermediates t → roundings t ≤ k → k ≤ 2 ^ 23 → NearBy k (over one t) (total t) (over above t) (over below t) (over size t)
+tree-near t k f i l h =
+    whole-units (2 ^ 149) (apart (P (total t) * 2 ^ 149 + over below t) (N (total t) * 2 ^ 149 + over above t)) (k * over size t) (over one t)
+    (off-more (roundings t) k (over one t) (total t) (over above t) (over below t) (over size t) l (known t f i (omega arith)))
+  where
+    whole-units : (U e s n : ℕ) → e * (2 ^ 24 - k) ≤ s + n * (U * 2 ^ 23) → e * (2 ^ 24 - k) ≤ s + n * U * (2 ^ 24 - k)
+    whole-units U e s n g =
+        let m : n * U * 2 ^ 23 ≤ n * U * (2 ^ 24 - k) = mul-le-mul-left (n * U) (omega arith) in
+        omega arith
+
+-- ---- the roundings of any tree
+joined-sum : (j k m n : ℕ) → j ≤ m → k ≤ n → joined j k ≤ m + n
+unfolding joined
+joined-sum zero k m n h g = omega arith
+joined-sum (suc j) zero m n h g = omega arith
+joined-sum (suc j) (suc k) m n h g = omega arith
+
+-- n products, in whatever order they are added, go through at most n roundings: one each and n - 1 additions
+pub at-most-products : (t : Sum) → roundings t ≤ over one t
+unfolding roundings over
+at-most-products nothing = omega arith
+at-most-products (product x y) = omega arith
+at-most-products (plus s t) = joined-sum (roundings s) (roundings t) (over one s) (over one t) (at-most-products s) (at-most-products t)
