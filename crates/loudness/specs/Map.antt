@@ -4,6 +4,7 @@ use mathlib.Core.Bool.{Bool, true, false, cond}
 use lib.Dec.{leb}
 use Prim.Native.Nat.{ℕ, _+_, _-_, _*_, _/_, _^_, _≤_, _<_}
 use lib.Ieee.{Float}
+use Rattle.logs.specs.Fixed.{fixedOf}
 use Rattle.units.specs.Units.{Number, P, N, Le}
 
 -- the sound levels of a channel: 2 ^ -24 ≤ b, 2 b ≤ m ≤ 1, as exact numbers
@@ -51,9 +52,9 @@ pub record Within (num den : ℕ) (b m : Float) (t c : ℕ) (a : Float) (i : ℕ
   pub not-above : RatioAtLeast (P a) (P b) (P m) (den * (c - t)) (den * (i - t) - num)
 
 -- ---- what the program computes
--- the level of a float: its logarithm in steps of 2 ^ -38, with 127 added
+-- the level of a float: its logarithm with 127 added, in steps of 2 ^ -38, cut off
 unfoldable pub levelOf : Float → ℕ
-levelOf x = 0
+levelOf x = fixedOf x / 65536
 
 -- what a level is known to be
 pub record IsLevel (x : Float) (r : ℕ) : Type 0 where

@@ -21,7 +21,7 @@ fn level(x: f32) -> u64
     requires { ⌜ Sound x ⌝ }
     ensures { λ r. ⌜ IsLevel x r ⌝ }
 {
-    0
+    logs::fixed_log2(x) / 65536
 }
 
 // Whether 2 ^ -24 <= b and 2 b <= m <= 1. Doubling a float of at most 1 rounds nothing.

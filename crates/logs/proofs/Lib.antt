@@ -1,0 +1,9 @@
+pub mod Mirror
+pub mod Method
+pub mod Sixteenths
+pub mod Reduction
+pub mod Order
+pub mod Rounding
+pub mod Relative
+pub mod Range
+pub mod Logarithm

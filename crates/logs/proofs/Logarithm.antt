@@ -1,0 +1,145 @@
+-- The logarithm: method, reduction and rounding joined to the promise. Assumes nothing.
+use mathlib.Core.Path.{_≡_, refl, sym, ap, _∙_, subst}
+use mathlib.Core.Logic.{_⊎_, inl, inr}
+use mathlib.Core.Bool.{Bool, true, false, cond}
+use Prim.Native.Nat.{ℕ, _+_, _-_, _*_, _^_, _≤_, _<_}
+use native.Mathlib.Nat.{le-of-eq, lt-of-lt-of-le, add-le-add, zero-add, eq-zero-or-pos}
+use native.Mathlib.Omega.{arith}
+use lib.Dec.{lit<, ltb}
+use lib.Pow.{pow-pos}
+use borrow.Author.Tests.{lt-ltb, le-ltb}
+use lib.Ieee.{Float, binary32, ofBits}
+use Rattle.units.specs.Units.{mag, negative, P, N, Number, Le}
+use Rattle.units.proofs.Naturals.{le-or-lt}
+use Rattle.units.proofs.Signs.{plus-of, minus-of}
+use Rattle.units.proofs.Bits.{Is, put-positive}
+use Rattle.units.proofs.Answers.{given, declined}
+use Rattle.logs.specs.Fixed.{Accepts, FixedLog2, fixedOf}
+use Rattle.logs.specs.Log2.{Near, Log2, atOne, distanceOf, signOf, nearestBits, roundedBits, log2Of}
+use Rattle.logs.proofs.Reduction.{reading, whole-fixed}
+use Rattle.logs.proofs.Order.{fixed-least, fixed-most, fixed-order}
+use Rattle.logs.proofs.Rounding.{unitsOf, zero-units, units-order, near-most, near-least, whole-units, is-units, is-zero}
+use Rattle.logs.proofs.Relative.{Within, fixed-below, fixed-above, within, near-below, near-above}
+
+-- ---- in fixed point
+-- what the program computes keeps the promise
+pub fixed-promised : (x : Float) (w : ℕ) → Accepts x → w ≡ fixedOf x → FixedLog2 x w
+fixed-promised x w a e =
+    subst (FixedLog2 x) (sym e)
+    (record { value = refl; least = fixed-least x a; most = fixed-most x a; whole = whole-fixed x a; order = λ x′ a′ l. fixed-order x x′ a a′ l })
+
+-- ---- the float of a logarithm in fixed point
+-- of n steps at or above log2 1
+is-steps : (n : ℕ) → n < 2 ^ 63 → Is (ofBits binary32 (0 + nearestBits n)) false (unitsOf n)
+is-steps n few = elim (eq-zero-or-pos n) [
+  | inl e ↦ rw (is-zero n few e, zero-units n e) (put-positive 0 0 (inl refl) (omega arith) (omega arith))
+  | inr h ↦ is-units n few false h
+]
+
+-- it has the units of its distance, on one side or on the other
+record Steps (w : ℕ) (r : Float) : Type 0 where
+  number : Number r
+  plus : P r ≡ unitsOf (w - atOne)
+  minus : N r ≡ unitsOf (atOne - w)
+
+steps : (w : ℕ) → w < 2 ^ 63 → Steps w (ofBits binary32 (roundedBits w))
+unfolding roundedBits signOf
+steps w few = elim (le-or-lt atOne w) [
+  | inl h ↦
+      let d : distanceOf w ≡ w - atOne = omega arith in
+      let i = is-steps (w - atOne) (omega arith) in
+      rw (le-ltb w atOne h, d)
+      (record { number = i .number; plus = plus-of _ (i .sign) ∙ i .units; minus = minus-of _ (i .sign) ∙ sym (zero-units (atOne - w) (omega arith)) })
+  | inr h ↦
+      let d : distanceOf w ≡ atOne - w = omega arith in
+      let r = ofBits binary32 (2147483648 + nearestBits (atOne - w)) in
+      let i = is-units (atOne - w) (omega arith) true (omega arith) in
+      rw (lt-ltb w atOne h, d)
+      (record {
+        number = i .number;
+        plus = ap (λ (s : Bool). cond s 0 (mag r)) (i .sign) ∙ sym (zero-units (w - atOne) (omega arith));
+        minus = ap (λ (s : Bool). cond s (mag r) 0) (i .sign) ∙ i .units;
+      })
+]
+
+-- ---- of an accepted x
+module _ (x : Float) (a : Accepts x) where
+  abbrev w : ℕ
+  w = fixedOf x
+
+  -- the logarithm in fixed point has 63 digits
+  pub few : w < 2 ^ 63
+  few = let r = reading x a in elim (r .place) [ inl e ↦ omega (arith, r .small, r .few) | inr e ↦ omega (arith, r .small, r .few) ]
+
+  made : Steps w (log2Of x)
+  unfolding log2Of
+  made = steps w few
+
+  -- within 33 parts in 2 ^ 29 of the logarithm, relatively: the strongest law of the result
+  pub log2-relative : Within 33 (2 ^ 29) (mag x) (2 ^ 149) (P (log2Of x)) (N (log2Of x))
+  log2-relative =
+      let pos : 0 < mag x = lt-of-lt-of-le (lit< tt) (a .normal) in
+      rw (made .plus, made .minus)
+      (within (mag x) (2 ^ 149) (2 ^ 95) (w - atOne) (atOne - w) (unitsOf (w - atOne)) (unitsOf (atOne - w)) refl
+      (near-most (w - atOne) (omega (arith, few))) (near-least (w - atOne) (omega (arith, few))) (near-most (atOne - w) (omega arith)) (near-least (atOne - w) (omega arith))
+      (fixed-below (mag x) w pos (reading x a)) (fixed-above (mag x) w pos (reading x a)))
+
+  one-sided : (N (log2Of x) ≡ 0) ⊎ (P (log2Of x) ≡ 0)
+  one-sided = elim (le-or-lt atOne w) [
+    | inl h ↦ inl (made .minus ∙ zero-units (atOne - w) (omega arith))
+    | inr h ↦ inr (made .plus ∙ zero-units (w - atOne) (omega arith))
+  ]
+
+  log2-near : Near 1 (2 ^ 21) x (log2Of x)
+  log2-near = record {
+    least = λ p q pos h b. near-below (mag x) (2 ^ 149) (P (log2Of x)) (N (log2Of x)) p q (pow-pos 149) pos one-sided log2-relative (b .least) (b .most);
+    most = λ p q pos h b. near-above (mag x) (2 ^ 149) (P (log2Of x)) (N (log2Of x)) p q (pow-pos 149) pos one-sided log2-relative (b .least) (b .most);
+  }
+
+  log2-whole : (k : ℕ) → mag x ≡ 2 ^ k → P (log2Of x) + 149 * 2 ^ 149 ≡ k * 2 ^ 149 + N (log2Of x)
+  log2-whole k e =
+      let f = whole-fixed x a k e in
+      rw (made .plus, made .minus, whole-units (w - atOne) (omega (arith, few)) (k - 149) (omega arith), whole-units (atOne - w) (omega arith) (149 - k) (omega arith))
+      (multiples (k - 149) 149 k (149 - k) (2 ^ 149) (omega arith))
+    where
+      multiples : (b c d e u : ℕ) → b + c ≡ d + e → b * u + c * u ≡ d * u + e * u
+      multiples b c d e u h = omega (arith, ap (λ (n : ℕ). n * u) h)
+
+  log2-one : mag x ≡ 2 ^ 149 → log2Of x ≡ ofBits binary32 0
+  unfolding log2Of roundedBits signOf
+  log2-one e =
+      let f = whole-fixed x a 149 e in
+      let h : w ≡ atOne = omega arith in
+      rw (le-ltb w atOne (le-of-eq (sym h)), is-zero (distanceOf w) (omega arith) (omega arith)) refl
+
+-- ---- the whole promise, of an accepted x and of any other
+log2-order : (x : Float) → Accepts x → (x′ : Float) → Accepts x′ → Le x′ x → Le (log2Of x′) (log2Of x)
+log2-order x a x′ a′ l =
+    let r = made x a in
+    let r′ = made x′ a′ in
+    let h = fixed-order x x′ a a′ l in
+    let few-x = few x a in
+    rw (r .plus, r .minus, r′ .plus, r′ .minus)
+    (add-le-add (units-order (fixedOf x′ - atOne) (fixedOf x - atOne) (omega arith) (omega arith)) (units-order (atOne - fixedOf x) (atOne - fixedOf x′) (omega arith) (omega arith)))
+
+-- of an accepted x
+pub promised : (x before after : Float) → Accepts x → after ≡ log2Of x → Log2 x 0 before after
+promised x before after a e =
+    subst (λ (r : Float). Log2 x 0 before r) (sym e)
+    (record {
+      answers = given log2Of x before (log2Of x) a refl (made x a .number);
+      near = λ h. log2-near x a;
+      whole = λ h. log2-whole x a;
+      one = λ h. log2-one x a;
+      order = λ h. log2-order x a;
+    })
+
+-- of any other
+pub refused : (x before : Float) → ¬ Accepts x → Log2 x 1 before before
+refused x before n = record {
+  answers = declined log2Of x before n;
+  near = λ h. absurd (n h);
+  whole = λ h. absurd (n h);
+  one = λ h. absurd (n h);
+  order = λ h. absurd (n h);
+}

@@ -1,0 +1,193 @@
+-- Reduction: the exponent of the nearer power of two, and the logarithm of what is left, are the logarithm of x in fixed point: w steps of 2 ^ -54 are log2 x + 127
+-- within 5 parts in 2 ^ 32 of the distance F between w and that exponent.
+use mathlib.Core.Path.{_≡_, refl, sym, ap, _∙_, subst}
+use mathlib.Core.Logic.{_⊎_, inl, inr}
+use Prim.Native.Nat.{ℕ, suc, _+_, _-_, _*_, _/_, _%_, _^_, _≤_, _<_}
+use native.Mathlib.Nat.{le-trans, le-of-eq, lt-of-lt-of-le, lt-of-le-of-lt, add-mul, mul-one, mul-le-mul, mul-le-mul-right, mul-pos, pow-suc}
+use native.Mathlib.Omega.{arith}
+use lib.Dec.{lit<}
+use lib.Pow.{pow-add, pow-pos}
+use lib.Ieee.{Float, binary32, toBits}
+use Rattle.exact.specs.Power.{AtMost, AtLeast}
+use Rattle.exact.proofs.Power.{at-most, at-least, most-of-less, least-of-more, most-of-larger, least-of-smaller, most-shift, least-shift}
+use Rattle.units.specs.Units.{mag}
+use Rattle.units.proofs.Naturals.{le-or-lt, pow-back-lt}
+use Rattle.units.proofs.Signs.{sign-plus}
+use Rattle.units.proofs.Size.{mag-lt}
+use Rattle.units.proofs.Bits.{pattern-normal}
+use Rattle.fixed.specs.Parts.{Positive, Apart}
+use Rattle.fixed.proofs.Take.{apart-high, unique}
+use Rattle.logs.specs.Rows.{row}
+use Rattle.logs.specs.Fixed.{Accepts, slope, nearer, fixedBits, fixedOf}
+use Rattle.logs.proofs.Method.{Close}
+use Rattle.logs.proofs.Sixteenths.{Sixteenth, row-passes, below-cut, above-cut}
+
+-- ---- exponents over one denominator
+pub least-over : {n d p m q p' m' : ℕ} → 0 < q → p' + m ≤ p + m' → AtLeast n d p m q → AtLeast n d p' m' q
+least-over {p} {m} {q} {p'} {m'} pos h = least-of-smaller pos (le-trans (le-of-eq (sym (add-mul p' m q))) (le-trans (mul-le-mul-right q h) (le-of-eq (add-mul p m' q))))
+
+pub most-over : {n d p m q p' m' : ℕ} → 0 < q → p + m' ≤ p' + m → AtMost n d p m q → AtMost n d p' m' q
+most-over {p} {m} {q} {p'} {m'} pos h = most-of-larger pos (le-trans (le-of-eq (sym (add-mul p m' q))) (le-trans (mul-le-mul-right q h) (le-of-eq (add-mul p' m q))))
+
+-- ---- what w steps say of X / 2 ^ 22: F is their distance from the whole number k
+pub record Read (X W : ℕ) : Type 0 where
+  pub k : ℕ
+  pub F : ℕ
+  pub least : AtLeast X (2 ^ 22) (2 ^ 32 * W) (5 * F) (2 ^ 86)
+  pub most : AtMost X (2 ^ 22) (2 ^ 32 * W + 5 * F) 0 (2 ^ 86)
+  pub place : (W ≡ k * 2 ^ 54 + F) ⊎ (W + F ≡ k * 2 ^ 54)
+  pub small : 5 * F ≤ 3 * 2 ^ 54
+  pub few : k ≤ 255
+
+doubled : (X m G : ℕ) → X * 2 ≡ m * G → m * (G * 2) * 2 ^ 22 ≡ X * (2 ^ 24 * 2 ^ 0)
+doubled X m G h = omega arith
+
+halved : (X m G K M : ℕ) → K ≡ G * 2 ^ 23 → M ≡ m → X * 2 ^ 24 ≡ M * K → X * 2 ≡ m * G
+halved X m G K M h l f = let g : X * 2 ^ 24 ≡ m * (G * 2 ^ 23) = rw (h, l) at f in omega arith
+
+module _ (X m E W F : ℕ) (same : X * 2 ≡ m * 2 ^ E) (mpos : 0 < m) (small : 5 * F ≤ 3 * 2 ^ 54) (few : E ≤ 254) where
+  -- m / 2 ^ 23 is above 1, and the logarithm is added
+  added : W ≡ E * 2 ^ 54 + F → Close m (2 ^ 23) F → Read X W
+  added e c = record {
+    k = E;
+    F = F;
+    least = least-over (lit< tt) (omega arith) (least-of-more (mul-pos mpos (pow-pos E)) (le-of-eq (omega arith)) (least-shift E 0 (c .least)));
+    most = most-over (lit< tt) (omega arith) (most-of-less (lit< tt) (le-of-eq (omega arith)) (most-shift E 0 (c .most)));
+    place = inl e;
+    small = small;
+    few = omega arith;
+  }
+
+  -- m / 2 ^ 24 is at most 1, and the logarithm is taken away
+  taken : W + F ≡ suc E * 2 ^ 54 → Close (2 ^ 24) m F → Read X W
+  taken e c = record {
+    k = suc E;
+    F = F;
+    least = least-over (lit< tt) (omega arith) (least-of-more (mul-pos mpos (pow-pos (suc E))) (le-of-eq twice) (least-shift (suc E) 0 (at-least (c .most))));
+    most = most-over (lit< tt) (omega arith) (most-of-less (lit< tt) (le-of-eq (sym twice)) (most-shift (suc E) 0 (at-most (c .least))));
+    place = inr e;
+    small = small;
+    few = omega arith;
+  }
+    where
+      twice : m * 2 ^ suc E * 2 ^ 22 ≡ X * (2 ^ 24 * 2 ^ 0)
+      twice = rw (pow-suc 2 E) (doubled X m (2 ^ E) same)
+
+-- ---- the pattern b of a float: its exponent field, its sixteenth and the digits after
+module _ (b : ℕ) where
+  abbrev i : ℕ
+  i = b / 524288 % 16
+
+  abbrev y : ℕ
+  y = b % 524288
+
+  abbrev v : ℕ
+  v = 524288 - y
+
+  abbrev above : ℕ
+  above = i * 2 ^ 19 + y
+
+  abbrev below : ℕ
+  below = (15 - i) * 2 ^ 19 + v
+
+  -- the significand
+  abbrev m : ℕ
+  m = (16 + i) * 2 ^ 19 + y
+
+  sixteenth-above : i < 7 → Sixteenth m (2 ^ 23) above (slope b)
+  unfolding slope
+  sixteenth-above h = below-cut v y (omega arith) i (row i) (row-passes i (omega arith)) h
+
+  sixteenth-below : 7 ≤ i → Sixteenth (2 ^ 24) m below (slope b)
+  unfolding slope
+  sixteenth-below h = above-cut v y (omega arith) i (row i) (row-passes i (omega arith)) h (omega arith) (omega arith)
+
+  fixed-above : i < 7 → fixedBits b ≡ b / 8388608 * 2 ^ 54 + above * slope b
+  unfolding fixedBits nearer
+  fixed-above h = through (b / 8388608) ((b + 4718592) / 8388608) above (slope b) (omega arith) (omega arith)
+    where
+      through : (E k n p : ℕ) → k ≡ E → b ≡ E * 8388608 + n → k * 18014398509481984 + b * p - k * 8388608 * p ≡ E * 2 ^ 54 + n * p
+      through E k n p e f = rw (e, f) (omega arith)
+
+  fixed-below : 7 ≤ i → fixedBits b + below * slope b ≡ suc (b / 8388608) * 2 ^ 54
+  unfolding fixedBits nearer
+  fixed-below h = through (b / 8388608) ((b + 4718592) / 8388608) below (slope b) (sixteenth-below h .small) (omega arith) (omega arith)
+    where
+      through : (E k n p : ℕ) → 5 * (n * p) ≤ 3 * 2 ^ 54 → k ≡ suc E → b + n ≡ suc E * 8388608 → k * 18014398509481984 + b * p - k * 8388608 * p + n * p ≡ suc E * 2 ^ 54
+      through E k n p s e f =
+          let g : b * p + n * p ≡ suc E * 8388608 * p = sym (add-mul b n p) ∙ ap (λ (c : ℕ). c * p) f in
+          rw e (omega arith)
+
+  -- what the program multiplies and takes away fits
+  pub slope-fits : slope b < 2 ^ 32
+  slope-fits = elim (le-or-lt 7 i) [ inl h ↦ sixteenth-below h .digits | inr h ↦ sixteenth-above h .digits ]
+
+  pub no-borrow : nearer b * 8388608 * slope b ≤ nearer b * 18014398509481984 + b * slope b
+  unfolding nearer
+  no-borrow = elim (le-or-lt 7 i) [
+    | inl h ↦ over ((b + 4718592) / 8388608) below (slope b) (sixteenth-below h .small) (omega arith) (omega arith)
+    | inr h ↦ under ((b + 4718592) / 8388608) above (slope b) (omega arith)
+  ]
+    where
+      over : (k n p : ℕ) → 5 * (n * p) ≤ 3 * 2 ^ 54 → 1 ≤ k → b + n ≡ k * 8388608 → k * 8388608 * p ≤ k * 18014398509481984 + b * p
+      over k n p s h e = omega (arith, ap (λ (c : ℕ). c * p) e)
+
+      under : (k n p : ℕ) → b ≡ k * 8388608 + n → k * 8388608 * p ≤ k * 18014398509481984 + b * p
+      under k n p e = omega (arith, ap (λ (c : ℕ). c * p) e)
+
+  -- a number of X units with this pattern is read
+  read-bits : (X : ℕ) → X * 2 ^ 24 ≡ (b % 8388608 + 8388608) * 2 ^ (b / 8388608 + 23) → b / 8388608 ≤ 254 → Read X (fixedBits b)
+  read-bits X e few = elim (le-or-lt 7 i) [
+    | inl h ↦ let s = sixteenth-below h in taken X m (b / 8388608) (fixedBits b) (below * slope b) same (omega arith) (s .small) few (fixed-below h) (s .close)
+    | inr h ↦ let s = sixteenth-above h in added X m (b / 8388608) (fixedBits b) (above * slope b) same (omega arith) (s .small) few (fixed-above h) (s .close)
+  ]
+    where
+      same : X * 2 ≡ m * 2 ^ (b / 8388608)
+      same = halved X m (2 ^ (b / 8388608)) (2 ^ (b / 8388608 + 23)) (b % 8388608 + 8388608) (pow-add 2 (b / 8388608) 23) (omega arith) e
+
+-- ---- of an accepted float
+pub positive : (x : Float) → Accepts x → Positive x
+positive x a =
+    let l = lt-of-lt-of-le (lit< tt) (a .normal) in
+    record { number = a .number; sign = sign-plus x (a .at-least-zero) l; above = l }
+
+module _ (x : Float) (a : Accepts x) where
+  abbrev bits : ℕ
+  bits = toBits binary32 x
+
+  -- its pattern is that of a normal number
+  pub normal-bits : 2 ^ 23 ≤ bits
+  normal-bits = let n = pattern-normal x (a .number) (a .normal) in rw (n .bits) (omega (arith, n .least))
+
+  -- and is taken apart by its digits
+  pub parts : Apart x (bits % 8388608 + 8388608) (bits / 8388608 + 23)
+  parts = apart-high x (positive x a) normal-bits
+
+  -- below the infinity's
+  pub bits-few : bits < 255 * 8388608
+  bits-few = let h = parts .high in omega arith
+
+  -- the logarithm in fixed point, read
+  pub reading : Read (mag x) (fixedOf x)
+  unfolding fixedOf
+  reading = read-bits bits (mag x) (parts .same) (omega (arith, bits-few))
+
+  -- of 2 ^ j units it is j - 22
+  pub whole-fixed : (j : ℕ) → mag x ≡ 2 ^ j → fixedOf x + 22 * 2 ^ 54 ≡ j * 2 ^ 54
+  unfolding fixedOf
+  whole-fixed j e =
+      let (ee, me) = unique x (2 ^ 23) (j + 1) power in
+      let (eb, mb) = unique x (bits % 8388608 + 8388608) (bits / 8388608 + 23) parts in
+      through (bits / 8388608) (above bits) (slope bits) (fixedBits bits) (omega arith) (fixed-above bits (omega arith)) (eb ∙ sym ee)
+    where
+      power : Apart x (2 ^ 23) (j + 1)
+      power = record {
+        same = rw (e, pow-add 2 j 1) (omega arith);
+        least = omega arith;
+        digits = omega arith;
+        low = omega arith;
+        high = let l : j < 277 = pow-back-lt j 277 (lt-of-le-of-lt (le-of-eq (sym e)) (mag-lt x (a .number))) in omega arith;
+      }
+
+      through : (E n p W : ℕ) → n ≡ 0 → W ≡ E * 2 ^ 54 + n * p → E + 23 ≡ j + 1 → W + 22 * 2 ^ 54 ≡ j * 2 ^ 54
+      through E n p W z h l = let g : W ≡ E * 2 ^ 54 + 0 * p = rw z at h in omega arith

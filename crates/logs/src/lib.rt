@@ -1,0 +1,88 @@
+// log2: whole numbers inside, one rounding at the end.
+
+mod rows;
+
+ghost use mathlib.Core.Path.{_≡_};
+ghost use Prim.Native.Nat.{_+_, _*_, _/_, _^_, _<_, _≤_};
+ghost use Rattle.logs.specs.Fixed.{Accepts, FixedLog2, slope};
+ghost use Rattle.logs.specs.Log2.{Log2, distanceOf, nearestBits, roundedBits, signOf};
+
+// log2 1 in fixed point: 127 in steps of 2 ^ -54.
+const AT_ONE: u64 = 0x1fc0_0000_0000_0000;
+
+// One step of Horner's rule, the product cut off to a whole number.
+fn step(c: u32, p: u64, v: u64) -> u64
+    requires { ⌜ (p ≤ 2 ^ 33) × (v ≤ 2 ^ 28) ⌝ }
+    ensures { λ r. ⌜ (r ≡ c + p * v / 4294967296) × (r ≤ 2 ^ 33) ⌝ }
+{
+    c as u64 + p * v / 4294967296
+}
+
+// The logarithm over the distance from the nearer power of two: the row of the sixteenth, at the distance from its upper end.
+fn slope(b: u32) -> u64
+    ensures { λ r. ⌜ r ≡ slope b ⌝ }
+{
+    let t = rows::of_sixteenth(b / 524288 % 16);
+    let v = ((524288 - b % 524288) * 512) as u64;
+    step(t.0, step(t.1, step(t.2, step(t.3, t.4 as u64, v), v), v), v)
+}
+
+// log2 x + 127 in steps of 2 ^ -54: the exponent of the nearer power of two, and slope times distance. With the pattern b for x the distance is
+// b - k * 2 ^ 23, of either sign, so that both sides of the cut are one formula.
+pub fn fixed_log2(x: f32) -> u64
+    requires { ⌜ Accepts x ⌝ }
+    ensures { λ w. ⌜ FixedLog2 x w ⌝ }
+{
+    let b = f32::to_bits(x);
+    let p = slope(b);
+    let k = ((b + 4718592) / 8388608) as u64;
+    k * 18014398509481984 + b as u64 * p - k * 8388608 * p
+}
+
+// The bit pattern of the float nearest to n steps of 2 ^ -54: the first 25 digits, and one of them rounded off. A carry runs into the exponent.
+fn nearest(n: u64) -> u32
+    requires { ⌜ n < 2 ^ 63 ⌝ }
+    ensures { λ r. ⌜ r ≡ nearestBits n ⌝ }
+{
+    if n == 0 {
+        return 0;
+    }
+    let z = u64::leading_zeros(n);
+    (135 - z) * 8388608 + (((n << z) / 549755813888 + 1) / 2) as u32
+}
+
+// How far a logarithm in fixed point is from log2 1.
+fn distance(w: u64) -> u64
+    ensures { λ r. ⌜ r ≡ distanceOf w ⌝ }
+{
+    if w < AT_ONE { AT_ONE - w } else { w - AT_ONE }
+}
+
+// The sign's bit of its float.
+fn sign(w: u64) -> u32
+    ensures { λ r. ⌜ r ≡ signOf w ⌝ }
+{
+    if w < AT_ONE { 0x8000_0000 } else { 0 }
+}
+
+// The bit pattern of the float nearest to it.
+fn rounded(w: u64) -> u32
+    requires { ⌜ w < 2 ^ 63 ⌝ }
+    ensures { λ r. ⌜ r ≡ roundedBits w ⌝ }
+{
+    sign(w) + nearest(distance(w))
+}
+
+// log2 x, rounded once; code 1 and nothing written where x is a NaN, below 2 ^ -126 or an infinity.
+pub fn log2(x: f32, out: &mut f32) -> u32
+    ensures { λ code. ⌜ Log2 x code (now (out .entry)) (now (out .exit)) ⌝ }
+{
+    if f32::from_bits(0x0080_0000) <= x {
+        if x <= f32::from_bits(0x7f7f_ffff) {
+            *out = f32::from_bits(rounded(fixed_log2(x)));
+            return 0;
+        }
+        return 1;
+    }
+    1
+}
