@@ -1,7 +1,7 @@
 # make         proves and builds build/libearmath.a, then compiles and runs the example
 # make test    the gate, .ci/run: all proofs, and the tests of the archive from C
-# make every   all 2^32 patterns through each function of one argument, and all floats
-#              of three channels through the loudness map (some minutes)
+# make every   all 2^32 patterns through each function of one argument, ONLY=ear_exp2 for one of
+#              them, and all floats of three channels through the loudness map (some minutes)
 # make bench   speed beside newlib's and glibc's functions, and beside a loop in C
 # make times   seconds and peak memory of each crate's check
 
@@ -33,8 +33,8 @@ test:
 tests: $(TESTS:%=build/tests/%)
 
 every: build/tests/every build/tests/loudness_every
-	build/tests/every
-	build/tests/loudness_every
+	build/tests/every $(ONLY)
+	$(if $(ONLY),,build/tests/loudness_every)
 
 bench: $(LIBRARY)
 	bench/run

@@ -15,6 +15,7 @@
 
 float newlib_sqrtf(float x);
 float newlib_log2f(float x);
+float newlib_powf(float x, float y);
 
 /* Where inputs come from: evenly over the bit patterns from one float to
  * another, and so over the exponents between them, or evenly over the values. */
@@ -24,12 +25,15 @@ enum evenly { OVER_PATTERNS, OVER_VALUES };
 #define ONE_TO_FOUR {"x from 1 to 4", OVER_VALUES, 1, 4}
 #define BETWEEN {"a from b to m", OVER_PATTERNS, 0.001f, 0.316227766f}
 #define UP_TO_ONE {"a from 0 to 1", OVER_VALUES, 0, 1}
+#define EVERY_POWER {"x from -126 to 127", OVER_VALUES, -126, 127}
+#define AROUND_ZERO {"x from -1 to 1", OVER_VALUES, -1, 1}
 
 /* The contests, a line for each function: its name, our call from x to *out,
  * what newlib's and glibc's code give, and two kinds of inputs. */
 #define CONTESTS(LINE) \
     LINE(square_root, ear_sqrt(x, out), newlib_sqrtf(x), sqrtf(x), EVERY_NORMAL, ONE_TO_FOUR) \
     LINE(reciprocal_root, ear_rsqrt(x, out), 1.0f / newlib_sqrtf(x), 1.0f / sqrtf(x), EVERY_NORMAL, ONE_TO_FOUR) \
+    LINE(power_of_two, ear_exp2(x, out), newlib_powf(2.0f, x), exp2f(x), EVERY_POWER, AROUND_ZERO) \
     LINE(loudness_map, loudness(x, out), straight(newlib_log2f, x), straight(log2f, x), BETWEEN, UP_TO_ONE)
 
 enum { INPUTS = 8192, ROUNDS = 200, OURS = 0, NEWLIB, GLIBC, CONTESTANTS };
@@ -167,6 +171,7 @@ int main(void)
     puts("Nanoseconds for a call, best of all rounds; a ratio above 1 means that ours is the faster.");
     puts("glibc's sqrtf is called in the library, whose code is the processor's root instruction;");
     puts("the reciprocal root's rivals are 1.0f / sqrtf(x), which is not always the nearest float;");
+    puts("newlib's exp2f without double precision is powf(2, x), and glibc's computes in double precision;");
     puts("the loudness map's are straightforward C on their log2f, with three logarithms in a call.\n");
     printf("%-16s %-19s %-11s %7s %7s %7s %12s %11s\n", "function", "inputs", "measure", "ours", "newlib", "glibc",
            "newlib/ours", "glibc/ours");

@@ -55,6 +55,18 @@ uint32_t ear_sqrt(float x, float *out);
 uint32_t ear_rsqrt(float x, float *out);
 
 /*
+ * 2 to the power x.
+ *
+ * Accepts: every x with -126 <= x <= 127.
+ * Result:  within 515 * 2^-33 (2^-23.99) of the real number 2^x, relatively.
+ *          Exactly 2^x where x is a whole number. Always a normal float.
+ * Order:   never falls as x grows.
+ * Refuses: NaN, both infinities, every x < -126 and every x > 127 with
+ *          EAR_OUT_OF_RANGE; *out stays as it was.
+ */
+uint32_t ear_exp2(float x, float *out);
+
+/*
  * The dot product: the sum of a[i] * b[i], for lists of na and nb floats.
  *
  * Accepts: na = nb = n <= 65,536, every element finite, every intermediate

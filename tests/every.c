@@ -1,10 +1,11 @@
 /*
- * Every one of the 2^32 patterns through every function of one argument.
- * Patterns are taken in the order of their values, so that order is judged
- * across the whole range.
+ * Every one of the 2^32 patterns through every function of one argument, or
+ * through those that are named on the command line. Patterns are taken in the
+ * order of their values, so that order is judged across the whole range.
  */
 #include <inttypes.h>
 #include <stdio.h>
+#include <string.h>
 
 #include "blocks.h"
 #include "functions.h"
@@ -100,9 +101,18 @@ static void every(const struct function *f)
     say(&shares[0]);
 }
 
-int main(void)
+static bool named(const struct function *f, int count, char **names)
+{
+    bool found = count == 0;
+    for (int i = 0; i < count; i++)
+        found |= strcmp(names[i], f->name) == 0;
+    return found;
+}
+
+int main(int count, char **words)
 {
     for (int i = 0; i < FUNCTIONS; i++)
-        every(&functions[i]);
+        if (named(&functions[i], count - 1, words + 1))
+            every(&functions[i]);
     return verdict();
 }

@@ -16,6 +16,7 @@ static const struct function functions[] = {
     /* name, call, accepted from, to, exact value, check, bound, order, twin */
     {"ear_sqrt", ear_sqrt, 0.0f, FLT_MAX, sqrt, nearest_root, 0, RISES, sqrtf},
     {"ear_rsqrt", ear_rsqrt, 0x1p-149f, FLT_MAX, reciprocal_root, nearest_reciprocal_root, 0, FALLS, NULL},
+    {"ear_exp2", ear_exp2, -126.0f, 127.0f, exp2, near_power, 515 * 0x1p-33, RISES, NULL},
 };
 
 enum { FUNCTIONS = sizeof functions / sizeof functions[0] };

@@ -54,6 +54,13 @@ bool within_relative(const struct function *f, float x, float result)
     return fabs(result - exact) <= f->bound * fabs(exact);
 }
 
+bool near_power(const struct function *f, float x, float result)
+{
+    if (x == floorf(x))
+        return result == ldexpf(1, (int)x);
+    return within_relative(f, x, result);
+}
+
 bool within_absolute(const struct function *f, float x, float result)
 {
     return fabs(result - f->exact(x)) <= f->bound;

@@ -21,7 +21,7 @@ struct function {
     float low, high;           /* accepted: low <= x <= high, so never a NaN */
     double (*exact)(double x); /* the exact value, to double precision */
     bool (*right)(const struct function *f, float x, float result);
-    double bound;              /* for within_relative and within_absolute */
+    double bound;              /* for near_power, within_relative and within_absolute */
     enum order order;          /* RISES: never falls as x grows */
     float (*twin)(float x);    /* other code that gives the same bits, or NULL */
 };
@@ -31,6 +31,7 @@ struct function {
  * 2^-52 is far below any of them. */
 bool nearest_root(const struct function *f, float x, float result);
 bool nearest_reciprocal_root(const struct function *f, float x, float result);
+bool near_power(const struct function *f, float x, float result); /* exact at whole x */
 bool within_relative(const struct function *f, float x, float result);
 bool within_absolute(const struct function *f, float x, float result);
 

@@ -90,6 +90,8 @@ static void document_01(void)
     bool good = refused_at(root, 0xbf800000) && refused_at(root, 0x80000001);
     group(good && refused_at(reciprocal, 0x00000000) && refused_at(reciprocal, 0x80000000),
           "the root refuses -1 and the negative next to zero, the reciprocal root both zeros");
+    const struct function *power = line_of(ear_exp2);
+    group(refused_at(power, 0x42ff0000) && refused_at(power, 0xc2fd0000), "2^x refuses 127.5 and -126.5");
 }
 
 int main(void)

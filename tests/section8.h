@@ -1,10 +1,11 @@
-/* Document 01, section 8: bit patterns of x, of its nearest root, of its root
- * cut off instead of rounded, and of the nearest float to 1 over its root. */
+/* Document 01, section 8. */
 #ifndef SECTION8_H
 #define SECTION8_H
 
 #include <stdint.h>
 
+/* Bit patterns of x, of its nearest root, of its root cut off instead of
+ * rounded, and of the nearest float to 1 over its root. */
 static const struct root_row {
     uint32_t x, root, cut, reciprocal;
 } root_rows[] = {
@@ -18,5 +19,14 @@ static const struct root_row {
 };
 
 enum { ROOT_ROWS = sizeof root_rows / sizeof root_rows[0] };
+
+/* Bit patterns of x and of the float nearest to 2^x, by the document's digits. */
+static const uint32_t power_rows[][2] = {
+    {0x42fdffff, 0x7effffa7}, /* 1.7014028370637e38 */
+    {0xb3800000, 0x3f7fffff}, /* 0.99999995868521 */
+    {0x40490fdb, 0x410d331d}, /* 8.8249783618422 */
+};
+
+enum { POWER_ROWS = sizeof power_rows / sizeof power_rows[0] };
 
 #endif

@@ -26,7 +26,29 @@ static const uint32_t exact_roots[][2] = {
 
 enum { EXACT_ROOTS = sizeof exact_roots / sizeof exact_roots[0] };
 
-int main(void)
+/* Powers that need no rounding, up to both ends of the range, and the floats
+ * next to whole numbers and next to zero, where pieces have to meet. */
+static const uint32_t edge_powers[][2] = {
+    {0x00000000, 0x3f800000}, {0x80000000, 0x3f800000}, {0x3f800000, 0x40000000}, {0x41200000, 0x44800000},
+    {0xc2fc0000, 0x00800000}, {0x42fe0000, 0x7f000000}, {0x00000001, 0x3f800000}, {0x80000001, 0x3f800000},
+    {0x3f7fffff, 0x3fffffff}, {0x3f800001, 0x40000001}, {0xbf7fffff, 0x3f000000}, {0xc2fbffff, 0x0080002c},
+    {0x33800000, 0x3f800000}, {0xb3000000, 0x3f800000}, {0x3f000000, 0x3fb504f3}, {0xc1200001, 0x3a7ffff5},
+};
+
+enum { EDGE_POWERS = sizeof edge_powers / sizeof edge_powers[0] };
+
+static void powers(void)
+{
+    int rows = 0, edges = 0;
+    for (int i = 0; i < POWER_ROWS; i++)
+        rows += gives("ear_exp2", ear_exp2, power_rows[i][0], power_rows[i][1]);
+    for (int i = 0; i < EDGE_POWERS; i++)
+        edges += gives("ear_exp2", ear_exp2, edge_powers[i][0], edge_powers[i][1]);
+    group(rows == POWER_ROWS, "ear_exp2: %d of %d values of document 01, section 8", rows, POWER_ROWS);
+    group(edges == EDGE_POWERS, "ear_exp2: %d of %d powers at and next to whole numbers", edges, EDGE_POWERS);
+}
+
+static void roots_of_section_8(void)
 {
     int roots = 0, reciprocals = 0, exact = 0;
     for (int i = 0; i < ROOT_ROWS; i++) {
@@ -39,5 +61,11 @@ int main(void)
     group(roots == ROOT_ROWS, "ear_sqrt: %d of %d values of document 01, section 8", roots, ROOT_ROWS);
     group(reciprocals == ROOT_ROWS, "ear_rsqrt: %d of %d values of document 01, section 8", reciprocals, ROOT_ROWS);
     group(exact == EXACT_ROOTS, "ear_sqrt: %d of %d exact roots, of +0 and -0 among them", exact, EXACT_ROOTS);
+}
+
+int main(void)
+{
+    roots_of_section_8();
+    powers();
     return verdict();
 }

@@ -58,6 +58,32 @@ static uint32_t one_over_the_root(float x, float *out)
     return EAR_OK;
 }
 
+/* Section 9, 2: x split into a whole part and a fraction, and the fraction's
+ * power up to 2^-23 too great, so within 2^-22; but it is 1 at 0. */
+static uint32_t pieces_that_do_not_meet(float x, float *out)
+{
+    if (!(x >= -126 && x <= 127))
+        return EAR_OUT_OF_RANGE;
+    float whole = floorf(x), power = 1;
+    if (x != whole)
+        power = (float)(exp2((double)x - whole) * (1 + 0x1p-23));
+    *out = ldexpf(power, (int)whole);
+    return EAR_OK;
+}
+
+static uint32_t power_cut_off(float x, float *out)
+{
+    uint32_t code = ear_exp2(x, out);
+    if (code == EAR_OK && *out > exp2(x))
+        *out = nextafterf(*out, 0);
+    return code;
+}
+
+static uint32_t accepts_127_and_a_half(float x, float *out)
+{
+    return ear_exp2(x > 127 && x < 128 ? 127 : x, out);
+}
+
 static const struct wrong {
     const char *what;
     single call, poses_as;
@@ -71,6 +97,9 @@ static const struct wrong {
     {"a root that falls between neighbours", swaps_neighbours, ear_sqrt, 0x00000003, OUT_OF_ORDER},
     {"a reciprocal root one unit too great", one_unit_up, ear_rsqrt, 0x40a00000, WRONG_VALUE},
     {"a reciprocal root rounded twice", one_over_the_root, ear_rsqrt, 0x3f800003, WRONG_VALUE},
+    {"a 2^x whose pieces do not meet", pieces_that_do_not_meet, ear_exp2, 0x3f800000, OUT_OF_ORDER},
+    {"a 2^x that cuts off instead of rounding", power_cut_off, ear_exp2, 0x3f800001, WRONG_VALUE},
+    {"a 2^x that accepts 127.5", accepts_127_and_a_half, ear_exp2, 0x42ff0000, WRONG_CODE},
 };
 
 enum { WRONGS = sizeof wrongs / sizeof wrongs[0] };

@@ -3,6 +3,7 @@
 ghost use Rattle.roots.specs.Sqrt.{Sqrt};
 ghost use Rattle.roots.specs.Rsqrt.{Rsqrt};
 ghost use Rattle.loudness.specs.Map.{Loudness};
+ghost use Rattle.powers.specs.Exp2.{Exp2};
 ghost use Rattle.sums.specs.Dot.{Dot};
 
 // The square root of every bit pattern: the nearest float, or code 1 and nothing written.
@@ -19,6 +20,14 @@ pub extern "C" fn ear_rsqrt(x: f32, out: &mut f32) -> u32
     ensures { λ code. ⌜ Rsqrt x code (now (out .entry)) (now (out .exit)) ⌝ }
 {
     roots::rsqrt(x, out)
+}
+
+// 2 to the power of every bit pattern: within 515 / 2^33 of it, or code 1 and nothing written.
+#[no_mangle]
+pub extern "C" fn ear_exp2(x: f32, out: &mut f32) -> u32
+    ensures { λ code. ⌜ Exp2 x code (now (out .entry)) (now (out .exit)) ⌝ }
+{
+    powers::exp2(x, out)
 }
 
 // The sum of the products of two lists, within G times the sum of their sizes; or code 2, 1 or 3 and nothing written.

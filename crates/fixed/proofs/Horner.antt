@@ -1,6 +1,6 @@
 -- Horner's rule in whole numbers against the exact polynomial: it never exceeds it, each of its floors loses less than one unit, and it never falls as its argument grows.
 -- For any coefficients, any unit D and any argument f / D from 0 to 1. Assumes nothing.
-use mathlib.Core.Path.{_≡_}
+use mathlib.Core.Path.{_≡_, ap, _∙_}
 use mathlib.Core.List.{List, [], _∷_}
 use Prim.Native.Nat.{ℕ, zero, suc, _+_, _*_, _/_, _^_, _≤_, _<_}
 use native.Mathlib.Nat.{le-refl, le-trans, le-of-lt, zero-mul, zero-div, mul-zero, pow-zero, pow-suc, le-of-suc-le-suc, mul-le-mul, mul-le-mul-left, mul-le-mul-right, div-mul-le-self, lt-div-mul-add, le-div-iff-mul-le}
@@ -19,6 +19,11 @@ quotients D {a} pos h = le-div-iff-mul-le pos .1 (le-trans (div-mul-le-self a D)
 pub horner-one : (D c f : ℕ) → horner D (c ∷ []) f ≡ c
 unfolding horner
 horner-one D c f = rw (zero-mul, zero-div) (omega arith)
+
+-- one step more
+pub horner-step : (D f c : ℕ) (cs : List ℕ) {p r : ℕ} → p ≡ horner D cs f → r ≡ c + p * f / D → r ≡ horner D (c ∷ cs) f
+unfolding horner
+horner-step D f c cs h e = e ∙ ap (λ (p : ℕ). c + p * f / D) h
 
 -- at zero it is the first coefficient
 pub horner-zero : (D c : ℕ) (cs : List ℕ) → horner D (c ∷ cs) 0 ≡ c

@@ -41,12 +41,18 @@ fn rsqrt(b: u32) {
     show(b"rsqrt ", b, code, r);
 }
 
+fn exp2(b: u32) {
+    let mut r = 7.0;
+    let code = earmath::ear_exp2(float(b), &mut r);
+    show(b"exp2 ", b, code, r);
+}
+
 fn both(b: u32) {
     sqrt(b);
     rsqrt(b);
 }
 
-fn main() {
+fn roots() {
     both(0x0000_0001);
     both(0x007f_ffff);
     both(0x0080_0000);
@@ -61,4 +67,33 @@ fn main() {
     both(0x7f80_0000);
     both(0xff80_0000);
     both(0x7fc0_0000);
+}
+
+fn powers() {
+    exp2(0x42fd_ffff);
+    exp2(0xb380_0000);
+    exp2(0x4049_0fdb);
+    // whole numbers up to both ends, the floats next to them, and the least floats
+    exp2(0x0000_0000);
+    exp2(0x8000_0000);
+    exp2(0x0000_0001);
+    exp2(0x8000_0001);
+    exp2(0x3f7f_ffff);
+    exp2(0x3f80_0000);
+    exp2(0x3f80_0001);
+    exp2(0xc2fb_ffff);
+    exp2(0xc2fc_0000);
+    exp2(0x42fe_0000);
+    // what is refused: the floats next to the range, 127.5, the infinities, a NaN
+    exp2(0xc2fc_0001);
+    exp2(0x42fe_0001);
+    exp2(0x42ff_0000);
+    exp2(0x7f80_0000);
+    exp2(0xff80_0000);
+    exp2(0x7fc0_0000);
+}
+
+fn main() {
+    roots();
+    powers();
 }

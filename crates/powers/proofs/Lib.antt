@@ -1,0 +1,7 @@
+pub mod Method
+pub mod Rounding
+pub mod Reduction
+pub mod Taken
+pub mod Order
+pub mod Range
+pub mod Promise

@@ -1,0 +1,22 @@
+-- `powers::step` meets its contract: a product of two numbers below 2 ^ 32 fits, and a fraction of p is at most p. Assumes nothing.
+use mathlib.Core.Path.{refl}
+use Prim.Native.Nat.{_*_, _≤_}
+use native.Mathlib.Nat.{mul-le-mul-left}
+use native.Mathlib.Omega.{arith}
+use Rattle.powers.proofs.step.Statement.{statement}
+use Rattle.powers.proofs.step.Tie as tie
+
+product : (c : tie.Start) → c .args .p * c .args .f ≤ c .args .p * 4294967295
+product c = mul-le-mul-left (c .args .p) (omega arith)
+
+mul-result : tie.Need-mul-result
+mul-result c = omega (arith, product c)
+
+add-result : tie.Need-add-result
+add-result c = omega (arith, product c)
+
+returns : tie.Need-returns
+returns c = (refl, omega (arith, product c))
+
+pub step-spec : {M : Type 1} → statement M
+step-spec = tie.close (tie.spec mul-result add-result returns)
