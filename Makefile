@@ -1,35 +1,40 @@
 # make         proves and builds build/libearmath.a, then compiles and runs the example
 # make test    the gate, .ci/run: all proofs, and the tests of the archive from C
-# make every   all 2^32 patterns through each function of one argument (some minutes); ONLY=ear_exp2 for one
+# make every   all 2^32 patterns through each function of one argument, ONLY=ear_exp2 for one of
+#              them, and all floats of three channels through the loudness map (some minutes)
 # make bench   speed beside newlib's and glibc's functions, and beside a loop in C
 # make times   seconds and peak memory of each crate's check
 
 CC = cc
 CFLAGS = -O2 -Wall -Wextra
 LIBRARY = build/libearmath.a
-TESTS = values refusals spread wrong dot
+TESTS = values refusals spread wrong dot loudness loudness_wrong
 
-HARNESS = tests/dots.c tests/exact.c tests/judge.c tests/nearest.c tests/report.c tests/survey.c
+HARNESS = tests/blocks.c tests/dots.c tests/exact.c tests/judge.c tests/nearest.c tests/report.c tests/survey.c
+MAP_TESTS = build/tests/loudness build/tests/loudness_wrong build/tests/loudness_every
+MAP_HARNESS = tests/exact_map.c tests/map_judge.c tests/map_survey.c
 HEADERS = include/earmath.h $(wildcard tests/*.h)
 CRATES = crates.txt $(shell find crates -type f)
 
-.PHONY: all test tests every bench times clean tools-for-make
+.PHONY: all test tests every bench times clean tools-for-make mpfr
 .DELETE_ON_ERROR:
 
-all: build/roots
+all: build/roots build/growth.svg
 	@echo "The library is proved and built: $(LIBRARY). The example examples/roots.c, linked with it, says:"
 	@echo
 	@build/roots
 	@echo
 	@echo "So results are the nearest floats, and what has no result is refused with nothing written."
+	@echo "A channel's loudness map is drawn in build/growth.svg; build/growth prints it, for any channel."
 
 test:
 	@.ci/run
 
 tests: $(TESTS:%=build/tests/%)
 
-every: build/tests/every
+every: build/tests/every build/tests/loudness_every
 	build/tests/every $(ONLY)
+	$(if $(ONLY),,build/tests/loudness_every)
 
 bench: $(LIBRARY)
 	bench/run
@@ -41,18 +46,32 @@ clean:
 	rm -rf build target
 
 # `error` says it in one line, where a recipe that fails would add one of make's own.
+need = $(eval missing := $(shell tools/need $(1) 2>&1))$(if $(missing),$(error $(missing)))
+
 tools-for-make:
-	@$(eval missing := $(shell tools/need x86-64 rt $(CC) ar objdump 2>&1))$(if $(missing),$(error $(missing)))
+	@$(call need,x86-64 rt $(CC) ar objdump)
+
+mpfr:
+	@$(call need,$(CC) mpfr)
 
 $(LIBRARY): $(CRATES) | tools-for-make
 	rt staticlib earmath
 	@mkdir -p build
 	cp target/staticlib/libearmath.a $@
 
-# The example is plain C99, as the header is.
-build/roots: examples/roots.c include/earmath.h $(LIBRARY)
-	$(CC) -std=c99 -pedantic $(CFLAGS) -Iinclude $< $(LIBRARY) -o $@
+# The examples are plain C99, as the header is.
+build/roots build/growth: build/%: examples/%.c include/earmath.h $(LIBRARY)
+	$(CC) -std=c99 -pedantic $(CFLAGS) -Iinclude $< $(LIBRARY) -lm -o $@
+
+build/growth.svg: build/growth
+	build/growth --svg >$@
+
+# The loudness map is tested against exact arithmetic.
+$(MAP_TESTS): HARNESS += $(MAP_HARNESS)
+$(MAP_TESTS): LIBRARIES = -lmpfr -lgmp
+$(MAP_TESTS): $(MAP_HARNESS) | mpfr
 
 build/tests/%: tests/%.c $(HARNESS) $(HEADERS) $(LIBRARY)
 	@mkdir -p $(@D)
-	$(CC) -std=c11 -D_POSIX_C_SOURCE=200809L $(CFLAGS) -pthread -Iinclude $< $(HARNESS) $(LIBRARY) -lm -o $@
+	$(CC) -std=c11 -D_POSIX_C_SOURCE=200809L $(CFLAGS) -pthread -Iinclude $< $(HARNESS) $(LIBRARY) \
+		$(LIBRARIES) -lm -o $@

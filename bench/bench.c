@@ -11,10 +11,11 @@
 
 #include "clock.h"
 #include "earmath.h"
+#include "straight.h"
 
 float newlib_sqrtf(float x);
+float newlib_log2f(float x);
 float newlib_powf(float x, float y);
-float newlib_logf(float x);
 
 /* Where inputs come from: evenly over the bit patterns from one float to
  * another, and so over the exponents between them, or evenly over the values. */
@@ -22,6 +23,8 @@ enum evenly { OVER_PATTERNS, OVER_VALUES };
 
 #define EVERY_NORMAL {"normal x > 0", OVER_PATTERNS, FLT_MIN, FLT_MAX}
 #define ONE_TO_FOUR {"x from 1 to 4", OVER_VALUES, 1, 4}
+#define BETWEEN {"a from b to m", OVER_PATTERNS, 0.001f, 0.316227766f}
+#define UP_TO_ONE {"a from 0 to 1", OVER_VALUES, 0, 1}
 #define EVERY_POWER {"x from -126 to 127", OVER_VALUES, -126, 127}
 #define AROUND_ZERO {"x from -1 to 1", OVER_VALUES, -1, 1}
 
@@ -31,7 +34,8 @@ enum evenly { OVER_PATTERNS, OVER_VALUES };
     LINE(square_root, ear_sqrt(x, out), newlib_sqrtf(x), sqrtf(x), EVERY_NORMAL, ONE_TO_FOUR) \
     LINE(reciprocal_root, ear_rsqrt(x, out), 1.0f / newlib_sqrtf(x), 1.0f / sqrtf(x), EVERY_NORMAL, ONE_TO_FOUR) \
     LINE(power_of_two, ear_exp2(x, out), newlib_powf(2.0f, x), exp2f(x), EVERY_POWER, AROUND_ZERO) \
-    LINE(logarithm, ear_log2(x, out), newlib_logf(x) / 0.69314718f, log2f(x), EVERY_NORMAL, ONE_TO_FOUR)
+    LINE(logarithm, ear_log2(x, out), newlib_log2f(x), log2f(x), EVERY_NORMAL, ONE_TO_FOUR) \
+    LINE(loudness_map, loudness(x, out), straight(newlib_log2f, x), straight(log2f, x), BETWEEN, UP_TO_ONE)
 
 enum { INPUTS = 8192, ROUNDS = 200, OURS = 0, NEWLIB, GLIBC, CONTESTANTS };
 
@@ -44,6 +48,24 @@ union word {
     float value;
     uint32_t bits;
 };
+
+/* A usual channel; not static, so that the compiler must look at it. */
+struct channel channel = {0.001f, 0.316227766f, 100, 200};
+
+/* The step's bits as a float's, since the loops below are for floats. */
+static inline void loudness(float a, float *out)
+{
+    union word step = {.bits = 0};
+    ear_loudness(channel.b, channel.m, channel.t, channel.c, a, &step.bits);
+    *out = step.value;
+}
+
+static inline float straight(float (*log2_of)(float), float a)
+{
+    union word step = {.bits = 0};
+    straight_map(log2_of, channel, a, &step.bits);
+    return step.value;
+}
 
 /* x, known only once r is: r's bits, masked to nothing, are mixed in. */
 static inline float after(float r, float x, uint32_t nothing)
@@ -150,8 +172,9 @@ int main(void)
     puts("Nanoseconds for a call, best of all rounds; a ratio above 1 means that ours is the faster.");
     puts("glibc's sqrtf is called in the library, whose code is the processor's root instruction;");
     puts("the reciprocal root's rivals are 1.0f / sqrtf(x), which is not always the nearest float;");
-    puts("newlib's exp2f without double precision is powf(2, x), its log2f is logf(x) / ln 2, and glibc's two compute in");
-    puts("double precision.\n");
+    puts("newlib's exp2f without double precision is powf(2, x), its log2f is logf(x) / ln 2, and glibc's two compute");
+    puts("in double precision;");
+    puts("the loudness map's are straightforward C on their log2f, with three logarithms in a call.\n");
     printf("%-16s %-19s %-11s %7s %7s %7s %12s %11s\n", "function", "inputs", "measure", "ours", "newlib", "glibc",
            "newlib/ours", "glibc/ours");
     for (int i = 0; i < COUNT; i++)

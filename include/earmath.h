@@ -98,6 +98,24 @@ uint32_t ear_log2(float x, float *out);
  */
 uint32_t ear_dot(const float *a, size_t na, const float *b, size_t nb, float *out);
 
+/*
+ * The loudness map: from the envelope of one channel to a whole current step.
+ *
+ * The channel: b and m are envelope levels, t and c current steps: up to b the
+ *          current is the threshold t, from m on it is the comfort level c.
+ *          Between them the exact map is straight in the logarithm of a:
+ *          exact(a) = t + (c - t) * log2(a / b) / log2(m / b).
+ * Accepts: 2^-24 <= b, 2 b <= m <= 1 and t <= c <= 255, as exact numbers, and
+ *          every envelope value a from 0 to 1; -0 counts as 0.
+ * Result:  a step from t to c, which is t where a <= b and c where a >= m; it
+ *          is at most 0.500001 away from exact(a), so 0.55 is kept.
+ * Order:   never falls as a grows.
+ * Refuses: a channel that breaks a condition, b or m a NaN or infinite among
+ *          them, with EAR_BAD_CHANNEL, whatever a is; else a that is NaN, below
+ *          0 or above 1 with EAR_OUT_OF_RANGE; *out stays as it was.
+ */
+uint32_t ear_loudness(float b, float m, uint32_t t, uint32_t c, float a, uint32_t *out);
+
 #ifdef __cplusplus
 }
 #endif

@@ -1,20 +1,15 @@
 /*
  * Every one of the 2^32 patterns through every function of one argument, or
- * through those that are named on the command line.
- * Patterns are taken in the order of their values, in blocks that the threads
- * draw from a common counter, so that order is judged across the whole range.
+ * through those that are named on the command line. Patterns are taken in the
+ * order of their values, so that order is judged across the whole range.
  */
 #include <inttypes.h>
-#include <pthread.h>
-#include <stdatomic.h>
 #include <stdio.h>
 #include <string.h>
-#include <unistd.h>
 
+#include "blocks.h"
 #include "functions.h"
 #include "report.h"
-
-enum { BLOCKS = 4096, BLOCK = 1 << 20, MOST_THREADS = 64 };
 
 struct worst {
     double error;
@@ -23,7 +18,6 @@ struct worst {
 
 struct share {
     const struct function *f;
-    atomic_uint *next, *done;
     struct tally tally;
     struct worst ulps, relative, absolute;
 };
@@ -59,9 +53,9 @@ static void measure(struct share *s, struct deed d)
     keep_worse(&s->ulps, error / spacing_at(exact), d.x);
 }
 
-static void sweep_block(struct share *s, uint32_t block)
+static void sweep_block(void *share, uint32_t from)
 {
-    uint32_t from = block * BLOCK;
+    struct share *s = share;
     struct deed before = deed_at(s->f, pattern_at(from == 0 ? 0 : from - 1));
     for (uint32_t i = 0; i < BLOCK; i++) {
         struct deed here = deed_at(s->f, pattern_at(from + i));
@@ -70,25 +64,6 @@ static void sweep_block(struct share *s, uint32_t block)
         measure(s, here);
         before = here;
     }
-}
-
-/* One line that is written over on a terminal, and ten lines in a log. */
-static void progress(const char *name, unsigned done)
-{
-    bool terminal = isatty(STDERR_FILENO);
-    if (done % (terminal ? BLOCKS / 64 : BLOCKS / 8) == 0)
-        fprintf(stderr, "%s%s: %u %% of all patterns done%s", terminal ? "\r" : "", name, done * 100 / BLOCKS,
-                terminal && done < BLOCKS ? "" : "\n");
-}
-
-static void *sweep(void *argument)
-{
-    struct share *s = argument;
-    for (unsigned block; (block = atomic_fetch_add(s->next, 1)) < BLOCKS;) {
-        sweep_block(s, block);
-        progress(s->f->name, atomic_fetch_add(s->done, 1) + 1);
-    }
-    return NULL;
 }
 
 static void add(struct share *sum, const struct share *s)
@@ -118,23 +93,15 @@ static void say(const struct share *s)
     fflush(stdout); /* in a log, before the next function's progress */
 }
 
-static void every(const struct function *f, long threads)
+static void every(const struct function *f)
 {
-    atomic_uint next = 0, done = 0;
-    struct share own = {.f = f, .next = &next, .done = &done}, shares[MOST_THREADS];
-    pthread_t ids[MOST_THREADS];
-    long helpers = 0;
-    for (; helpers < threads - 1; helpers++) {
-        shares[helpers] = own;
-        if (pthread_create(&ids[helpers], NULL, sweep, &shares[helpers]) != 0)
-            break;
-    }
-    sweep(&own);
-    for (long i = 0; i < helpers; i++) {
-        pthread_join(ids[i], NULL);
-        add(&own, &shares[i]);
-    }
-    say(&own);
+    struct share shares[MOST_THREADS];
+    for (int i = 0; i < threads(); i++)
+        shares[i] = (struct share){.f = f};
+    all_blocks(f->name, sweep_block, shares, sizeof shares[0]);
+    for (int i = 1; i < threads(); i++)
+        add(&shares[0], &shares[i]);
+    say(&shares[0]);
 }
 
 static bool named(const struct function *f, int count, char **names)
@@ -147,10 +114,8 @@ static bool named(const struct function *f, int count, char **names)
 
 int main(int count, char **words)
 {
-    long threads = sysconf(_SC_NPROCESSORS_ONLN);
-    threads = threads < 1 ? 1 : threads > MOST_THREADS ? MOST_THREADS : threads;
     for (int i = 0; i < FUNCTIONS; i++)
         if (named(&functions[i], count - 1, words + 1))
-            every(&functions[i], threads);
+            every(&functions[i]);
     return verdict();
 }

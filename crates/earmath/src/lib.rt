@@ -2,6 +2,7 @@
 
 ghost use Rattle.roots.specs.Sqrt.{Sqrt};
 ghost use Rattle.roots.specs.Rsqrt.{Rsqrt};
+ghost use Rattle.loudness.specs.Map.{Loudness};
 ghost use Rattle.powers.specs.Exp2.{Exp2};
 ghost use Rattle.logs.specs.Log2.{Log2};
 ghost use Rattle.sums.specs.Dot.{Dot};
@@ -44,4 +45,12 @@ pub extern "C" fn ear_dot(a: &[f32], b: &[f32], out: &mut f32) -> u32
     ensures { λ code. ⌜ Dot (now (a .entry)) (now (b .entry)) code (now (out .entry)) (now (out .exit)) ⌝ }
 {
     sums::dot(a, b, out)
+}
+
+// The loudness map of an envelope value a in the channel b, m, t, c: a step within 0.500001 of the exact map, or code 4 or 1 and nothing written.
+#[no_mangle]
+pub extern "C" fn ear_loudness(b: f32, m: f32, t: u32, c: u32, a: f32, out: &mut u32) -> u32
+    ensures { λ code. ⌜ Loudness b m t c a code (now (out .entry)) (now (out .exit)) ⌝ }
+{
+    loudness::loudness(b, m, t, c, a, out)
 }

@@ -1,8 +1,10 @@
 -- Ratios of logarithms without logarithms: log (a / b) / log (m / b) compared with the fraction j / k is (a / b) ^ k compared with (m / b) ^ j.
 -- Bounds on the logarithms of a, b and m decide it.
 use Prim.Native.Nat.{ℕ, _+_, _*_, _^_, _≤_, _<_}
-use native.Mathlib.Nat.{mul-pos, mul-le-mul-right, le-of-mul-le-mul-right, one-le-pow}
+use native.Mathlib.Nat.{le-trans, not-le-of-lt, lt-of-not-le, mul-pos, mul-le-mul-right, le-of-mul-le-mul-right, one-le-pow}
+use native.Mathlib.Decide.{decLe}
 use native.Mathlib.Omega.{arith}
+use lib.Pow.{pow-lt}
 use Rattle.exact.specs.Power.{AtMost, AtLeast}
 use Rattle.exact.proofs.Power.{at-most, at-least, products-pow, pow-mul, pow-swap, most-mul, least-mul, most-of-larger, through-power}
 
@@ -27,3 +29,9 @@ products {a} {b} {c} {e} {D} {x} {y} {z} {w} {m} {q} k j pq pd ha hb hc he l =
       where
         widen : (s t r : ℕ) → s ≤ t → s * q + r ≤ t * q + r
         widen s t r h = omega (arith, mul-le-mul-right q h)
+
+-- 2 ^ ((p - m) / q) ≤ n / d ≤ 2 ^ ((p′ - m) / q) puts the exponents in order
+pub exponents : {n d p p′ m q : ℕ} → 0 < d → AtLeast n d p m q → AtMost n d p′ m q → p ≤ p′
+exponents {n} {d} {p} {p′} {m} {q} pd h h′ =
+    let l : 2 ^ p ≤ 2 ^ p′ = le-of-mul-le-mul-right (le-trans (h .holds) (h′ .holds)) (one-le-pow q d pd) in
+    elim (decLe p p′) [ yes k ↦ k | no n ↦ absurd (not-le-of-lt (pow-lt (lt-of-not-le n)) l) ]

@@ -14,9 +14,10 @@ use lib.Pow.{pow-add, pow-pos}
 use lib.Ieee.Digits.{size-lt, size-le, size-reaches}
 use lib.Ieee.Exact.{HasValue, odd-sign}
 use lib.Ieee.Scale.{finite}
-use Rattle.units.specs.Units.{mag, negative, Number}
+use Rattle.units.specs.Units.{mag, negative, P, N, Number}
 use Rattle.units.proofs.Naturals.{le-or-lt, pow-back-lt}
 use Rattle.units.proofs.Size.{value-mag}
+use Rattle.units.proofs.Signs.{size-sum, sign-plus}
 use Rattle.units.proofs.Gaps.{multiple}
 
 -- x is the finite float with the sign s and u units
@@ -24,6 +25,15 @@ pub record Is (x : Float) (s : Bool) (u : ℕ) : Type 0 where
   pub number : Number x
   pub sign : negative x ≡ s
   pub units : mag x ≡ u
+
+-- a float above zero by its P and N
+pub is-above : (x : Float) (u : ℕ) → Number x → P x ≡ u → N x ≡ 0 → 0 < u → Is x false u
+is-above x u h p n l =
+    let e : mag x ≡ u = sym (size-sum x) ∙ sum (P x) (N x) p n in
+    record { number = h; sign = sign-plus x n (lt-of-lt-of-le l (le-of-eq (sym e))); units = e }
+  where
+    sum : (a b : ℕ) → a ≡ u → b ≡ 0 → a + b ≡ u
+    sum a b i j = omega arith
 
 -- the sign's bit
 abbrev pub signBit : Bool → ℕ

@@ -16,7 +16,7 @@ use lib.Ieee.Scale.{finite}
 use Rattle.units.specs.Units.{mag, negative, Number, P, N, Le, Lt}
 use Rattle.units.proofs.Naturals.{le-or-lt, proportion-le, proportion-lt}
 use Rattle.units.proofs.Size.{mag-exact, mag-lt}
-use Rattle.units.proofs.Signs.{plus-of, minus-of, sides, size-sum}
+use Rattle.units.proofs.Signs.{plus-of, minus-of, one-sided, sides, size-sum}
 use Rattle.units.proofs.Gaps.{next-below}
 use Rattle.units.proofs.Bits.{Is, put, put-positive}
 
@@ -153,6 +153,14 @@ module _ (x y : Float) (h : Number x) (k : Number y) where
       go true q a b e = absurd (true≢false e)
       go false q a b e = elim (le-or-lt (P x + N y) (P y + N x)) [ inl l ↦ absurd (b e (omega (arith, a refl))) | inr l ↦ l ]
 
+-- of floats at least zero, the sizes are compared
+module _ (x y : Float) (h : Number x) (k : Number y) (zx : N x ≡ 0) (zy : N y ≡ 0) where
+  pub sizes-le : le x y ≡ true → P x ≤ P y
+  sizes-le e = let l = le-true x y h k e in omega arith
+
+  pub sizes-gt : le x y ≡ false → P y < P x
+  sizes-gt e = let l = le-false x y h k e in omega arith
+
 -- ---- a float between two finite ones is finite
 lt-le : (x y : Float) → lt x y ≡ true → le x y ≡ true
 unfolding le
@@ -212,12 +220,16 @@ module _ (x : Float) where
   number-from : (lo : Float) → T (finite lo) → T (fits binary32 x) → le lo x ≡ true → le x (ofBits binary32 2139095039) ≡ true → Number x
   number-from lo f t a b = record { fits32 = t; is-finite = finite-between lo x (ofBits binary32 2139095039) f (greatest-is .number .is-finite) a b }
 
+  pub not-negative : Number x → le (ofBits binary32 0) x ≡ true → N x ≡ 0
+  not-negative h a =
+      let l = le-true (ofBits binary32 0) x (zero-is .number) h a in
+      let z = zero-units in
+      elim (sides x) [ inl c ↦ c .1 | inr c ↦ omega arith ]
+
   pub at-least-zero : T (fits binary32 x) → le (ofBits binary32 0) x ≡ true → le x (ofBits binary32 2139095039) ≡ true → Number x × (N x ≡ 0)
   at-least-zero f a b =
       let h = number-from (ofBits binary32 0) (zero-is .number .is-finite) f a b in
-      let l = le-true (ofBits binary32 0) x (zero-is .number) h a in
-      let z = zero-units in
-      (h, elim (sides x) [ inl c ↦ c .1 | inr c ↦ omega arith ])
+      (h, not-negative h a)
 
   pub above-zero : T (fits binary32 x) → lt (ofBits binary32 0) x ≡ true → le x (ofBits binary32 2139095039) ≡ true → Number x × (N x ≡ 0) × (0 < mag x)
   above-zero f a b =
@@ -260,3 +272,31 @@ module _ (x : Float) where
   -- a finite float is not below that
   pub not-finite-below : Number x → le (ofBits binary32 4286578687) x ≡ false → ⊥
   not-finite-below h a = not-le-of-lt (le-false (ofBits binary32 4286578687) x (least-is .number) h a) (from-least x h)
+
+-- ---- a float between two floats above zero, by the machine's tests
+module _ (lo hi x : Float) (L H : ℕ) (l : Is lo false L) (h : Is hi false H) where
+  pub within-tests : T (fits binary32 x) → 0 < L → le lo x ≡ true → le x hi ≡ true → Number x × (N x ≡ 0) × (L ≤ P x) × (P x ≤ H)
+  within-tests f pl a b =
+      let n : Number x = record { fits32 = f; is-finite = finite-between lo x hi (l .number .is-finite) (h .number .is-finite) a b } in
+      let (z, low) = from-low (P lo) (N lo) (P x) (N x) (plus-of lo (l .sign) ∙ l .units) (minus-of lo (l .sign)) pl (one-sided x) (le-true lo x (l .number) n a) in
+      (n, z, low, to-high (P x) (N x) (P hi) (N hi) (plus-of hi (h .sign) ∙ h .units) (minus-of hi (h .sign)) z (le-true x hi n (h .number) b))
+    where
+      from-low : (pl nl px nx : ℕ) → pl ≡ L → nl ≡ 0 → 0 < L → (px ≡ 0) ⊎ (nx ≡ 0) → pl + nx ≤ px + nl → (nx ≡ 0) × (L ≤ px)
+      from-low pl nl px nx p n q (inl c) e = absurd (not-le-of-lt q (omega arith))
+      from-low pl nl px nx p n q (inr c) e = (c, omega arith)
+
+      to-high : (px nx ph nh : ℕ) → ph ≡ H → nh ≡ 0 → nx ≡ 0 → px + nh ≤ ph + nx → px ≤ H
+      to-high px nx ph nh p n z e = omega arith
+
+  -- outside, one of the tests fails
+  pub outside-low : Number x → N x ≡ 0 → le lo x ≡ false → P x < L
+  outside-low n z e = below-low (P lo) (N lo) (P x) (N x) (plus-of lo (l .sign) ∙ l .units) (minus-of lo (l .sign)) z (le-false lo x (l .number) n e)
+    where
+      below-low : (pl nl px nx : ℕ) → pl ≡ L → nl ≡ 0 → nx ≡ 0 → px + nl < pl + nx → px < L
+      below-low pl nl px nx p n z e = omega arith
+
+  pub outside-high : Number x → N x ≡ 0 → le x hi ≡ false → H < P x
+  outside-high n z e = above-high (P x) (N x) (P hi) (N hi) (plus-of hi (h .sign) ∙ h .units) (minus-of hi (h .sign)) z (le-false x hi n (h .number) e)
+    where
+      above-high : (px nx ph nh : ℕ) → ph ≡ H → nh ≡ 0 → nx ≡ 0 → ph + nx < px + nh → H < px
+      above-high px nx ph nh p n z e = omega arith

@@ -15,6 +15,9 @@ sides x = go (negative x) (mag x)
     go true m = inr (refl, refl)
     go false m = inl (refl, refl)
 
+pub one-sided : (x : Float) → (P x ≡ 0) ⊎ (N x ≡ 0)
+one-sided x = elim (sides x) [ inl h ↦ inr (h .1) | inr h ↦ inl (h .0) ]
+
 pub size-sum : (x : Float) → P x + N x ≡ mag x
 size-sum x = elim (sides x) [ inl h ↦ omega arith | inr h ↦ omega arith ]
 

@@ -1,0 +1,33 @@
+/*
+ * The loudness map as straightforward C: the same tests as in ear_loudness, and
+ * the formula with some library's log2f. Rounding is by adding a half.
+ */
+#ifndef STRAIGHT_H
+#define STRAIGHT_H
+
+#include <stdint.h>
+
+#include "earmath.h"
+
+struct channel {
+    float b, m;
+    uint32_t t, c;
+};
+
+static inline uint32_t straight_map(float (*log2_of)(float), struct channel k, float a, uint32_t *out)
+{
+    if (!(k.b >= 0x1p-24f && 2 * k.b <= k.m && k.m <= 1 && k.t <= k.c && k.c <= 255))
+        return EAR_BAD_CHANNEL;
+    if (!(a >= 0 && a <= 1))
+        return EAR_OUT_OF_RANGE;
+    float steps = (float)(k.c - k.t);
+    if (a <= k.b)
+        *out = k.t;
+    else if (a >= k.m)
+        *out = k.c;
+    else
+        *out = k.t + (uint32_t)(0.5f + steps * (log2_of(a) - log2_of(k.b)) / (log2_of(k.m) - log2_of(k.b)));
+    return EAR_OK;
+}
+
+#endif
