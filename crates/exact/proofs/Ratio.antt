@@ -1,12 +1,13 @@
 -- Ratios of logarithms without logarithms: log (a / b) / log (m / b) compared with the fraction j / k is (a / b) ^ k compared with (m / b) ^ j.
 -- Bounds on the logarithms of a, b and m decide it.
+use mathlib.Core.Path.{_≡_}
 use Prim.Native.Nat.{ℕ, _+_, _*_, _^_, _≤_, _<_}
-use native.Mathlib.Nat.{le-trans, not-le-of-lt, lt-of-not-le, mul-pos, mul-le-mul-right, le-of-mul-le-mul-right, one-le-pow}
+use native.Mathlib.Nat.{le-of-eq, not-le-of-lt, lt-of-not-le, mul-pos, mul-le-mul-right, le-of-mul-le-mul-right, one-le-pow}
 use native.Mathlib.Decide.{decLe}
 use native.Mathlib.Omega.{arith}
-use lib.Pow.{pow-lt}
+use lib.Pow.{pow-add, pow-lt}
 use Rattle.exact.specs.Power.{AtMost, AtLeast}
-use Rattle.exact.proofs.Power.{at-most, at-least, products-pow, pow-mul, pow-swap, most-mul, least-mul, most-of-larger, through-power}
+use Rattle.exact.proofs.Power.{at-most, at-least, products-pow, pow-mul, pow-swap, most-mul, least-mul, most-of-larger, least-of-smaller, through-power}
 
 -- a bound to a power: (n / d) ^ k is at most 2 ^ (e k) where n / d is at most 2 ^ e
 pub most-pow : {n d p m q : ℕ} (k : ℕ) → AtMost n d p m q → AtMost (n ^ k) (d ^ k) (p * k) (m * k) q
@@ -30,8 +31,27 @@ products {a} {b} {c} {e} {D} {x} {y} {z} {w} {m} {q} k j pq pd ha hb hc he l =
         widen : (s t r : ℕ) → s ≤ t → s * q + r ≤ t * q + r
         widen s t r h = omega (arith, mul-le-mul-right q h)
 
--- 2 ^ ((p - m) / q) ≤ n / d ≤ 2 ^ ((p′ - m) / q) puts the exponents in order
-pub exponents : {n d p p′ m q : ℕ} → 0 < d → AtLeast n d p m q → AtMost n d p′ m q → p ≤ p′
-exponents {n} {d} {p} {p′} {m} {q} pd h h′ =
-    let l : 2 ^ p ≤ 2 ^ p′ = le-of-mul-le-mul-right (le-trans (h .holds) (h′ .holds)) (one-le-pow q d pd) in
-    elim (decLe p p′) [ yes k ↦ k | no n ↦ absurd (not-le-of-lt (pow-lt (lt-of-not-le n)) l) ]
+-- ---- exponents are in the order of their powers
+-- 2 ^ e ≤ n / d ≤ 2 ^ e' gives e ≤ e', over one denominator
+pub exponents-over : {n d p m p' m' q : ℕ} → 0 < d → AtLeast n d p m q → AtMost n d p' m' q → p + m' ≤ p' + m
+exponents-over {n} {d} {p} {m} {p'} {m'} {q} dpos l h =
+    ordered (p + m') (p' + m) (rw (pow-add 2 p m', pow-add 2 p' m) (le-of-mul-le-mul-right (through (2 ^ p) (2 ^ m) (2 ^ p') (2 ^ m') (d ^ q) (n ^ q) (l .holds) (h .holds)) (one-le-pow q d dpos)))
+  where
+    through : (A B A' B' D G : ℕ) → A * D ≤ G * B → G * B' ≤ A' * D → A * B' * D ≤ A' * B * D
+    through A B A' B' D G a b = omega (arith, mul-le-mul-right B' a, mul-le-mul-right B b)
+
+    ordered : (i j : ℕ) → 2 ^ i ≤ 2 ^ j → i ≤ j
+    ordered i j h = elim (decLe i j) [ yes k ↦ k | no k ↦ absurd (not-le-of-lt (pow-lt (lt-of-not-le k)) h) ]
+
+-- and over any two
+pub exponents : {n d p m q p' m' q' : ℕ} → 0 < d → 0 < q → 0 < q' → AtLeast n d p m q → AtMost n d p' m' q' → p * q' + m' * q ≤ p' * q + m * q'
+exponents {n} {d} {p} {m} {q} {p'} {m'} {q'} dpos qpos qpos' l h =
+    exponents-over {q = q * q'} dpos
+    (least-of-smaller qpos (le-of-eq (same p m q q')) l)
+    (most-of-larger qpos' (le-of-eq (other p' m' q q')) h)
+  where
+    same : (a b i j : ℕ) → a * j * i + b * (i * j) ≡ a * (i * j) + b * j * i
+    same a b i j = omega arith
+
+    other : (a b i j : ℕ) → a * (i * j) + b * i * j ≡ a * i * j + b * (i * j)
+    other a b i j = omega arith

@@ -2,44 +2,21 @@
 use mathlib.Core.Path.{_≡_, refl, sym, ap, _∙_, subst}
 use mathlib.Core.Logic.{inl, inr}
 use Prim.Native.Nat.{ℕ, _+_, _*_, _^_, _≤_, _<_}
-use native.Mathlib.Nat.{le-of-eq, le-of-lt, eq-or-lt-of-le, lt-of-lt-of-le, mul-le-mul-right, le-of-mul-le-mul-right, one-le-pow, mul-pos}
+use native.Mathlib.Nat.{le-of-eq, le-of-lt, eq-or-lt-of-le, lt-of-lt-of-le, mul-le-mul-right, mul-pos}
 use native.Mathlib.Omega.{arith}
 use lib.Dec.{lit<, lit≤}
-use lib.Pow.{pow-add}
 use lib.Ieee.{Float, binary32, toBits}
 use Rattle.exact.specs.Power.{AtMost, AtLeast}
 use Rattle.exact.specs.Polynomial.{value}
 use Rattle.exact.proofs.Power.{most-of-larger, least-of-smaller, least-of-more, least-mul}
+use Rattle.exact.proofs.Ratio.{exponents-over}
 use Rattle.exact.proofs.Tight.{upper, tight-above}
 use Rattle.units.specs.Units.{mag, Le}
-use Rattle.units.proofs.Naturals.{pow-back}
 use Rattle.units.proofs.Signs.{size-sum}
 use Rattle.units.proofs.Gaps.{next-above}
 use Rattle.units.proofs.Bits.{pattern, pattern-normal}
 use Rattle.logs.specs.Fixed.{Accepts, fixedBits, fixedOf, fixedError}
 use Rattle.logs.proofs.Reduction.{reading, positive}
-
--- ---- exponents are in the order of their powers
--- 2 ^ e ≤ n / d ≤ 2 ^ e' gives e ≤ e', over one denominator
-exponents-over : {n d p m p' m' q : ℕ} → 0 < d → AtLeast n d p m q → AtMost n d p' m' q → p + m' ≤ p' + m
-exponents-over {n} {d} {p} {m} {p'} {m'} {q} dpos l h =
-    pow-back (p + m') (p' + m) (rw (pow-add 2 p m', pow-add 2 p' m) (le-of-mul-le-mul-right (through (2 ^ p) (2 ^ m) (2 ^ p') (2 ^ m') (d ^ q) (n ^ q) (l .holds) (h .holds)) (one-le-pow q d dpos)))
-  where
-    through : (A B A' B' D G : ℕ) → A * D ≤ G * B → G * B' ≤ A' * D → A * B' * D ≤ A' * B * D
-    through A B A' B' D G a b = omega (arith, mul-le-mul-right B' a, mul-le-mul-right B b)
-
--- and over any two
-pub exponents : {n d p m q p' m' q' : ℕ} → 0 < d → 0 < q → 0 < q' → AtLeast n d p m q → AtMost n d p' m' q' → p * q' + m' * q ≤ p' * q + m * q'
-exponents {n} {d} {p} {m} {q} {p'} {m'} {q'} dpos qpos qpos' l h =
-    exponents-over {q = q * q'} dpos
-    (least-of-smaller qpos (le-of-eq (same p m q q')) l)
-    (most-of-larger qpos' (le-of-eq (other p' m' q q')) h)
-  where
-    same : (a b i j : ℕ) → a * j * i + b * (i * j) ≡ a * (i * j) + b * j * i
-    same a b i j = omega arith
-
-    other : (a b i j : ℕ) → a * (i * j) + b * i * j ≡ a * i * j + b * (i * j)
-    other a b i j = omega arith
 
 -- ---- two floats are apart
 -- 2 ^ (1 / 2 ^ 24) ≤ 1 + 1 / 2 ^ 24

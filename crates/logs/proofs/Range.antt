@@ -8,7 +8,7 @@ use lib.Dec.{T, lit<}
 use lib.Ieee.{Float, binary32, fits, ofBits, le}
 use Rattle.units.proofs.Signs.{size-sum}
 use Rattle.units.proofs.Bits.{Is, put-positive}
-use Rattle.units.proofs.Order.{within-tests, outside-low}
+use Rattle.units.proofs.Ranges.{within-tests, outside-low}
 use Rattle.logs.specs.Fixed.{Accepts}
 
 abbrev least : Float

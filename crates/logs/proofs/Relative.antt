@@ -10,7 +10,7 @@ use Rattle.exact.proofs.Power.{most-of-larger, least-of-smaller, most-of-less, 
 use Rattle.units.proofs.Naturals.{le-or-lt}
 use Rattle.logs.specs.Log2.{atOne}
 use Rattle.logs.proofs.Reduction.{Read, least-over, most-over}
-use Rattle.logs.proofs.Order.{exponents}
+use Rattle.exact.proofs.Ratio.{exponents}
 
 -- ---- in fixed point: 15 parts in 2 ^ 33
 -- F is at most 3/2 of the distance from log2 1, since it is at most 3/5

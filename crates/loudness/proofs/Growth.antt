@@ -58,7 +58,7 @@ module _ (w mm q : ℕ) (levels : Known w mm q) (b m : Float) (t c : ℕ) (ch : 
   pub span-least : q ≤ d + w
   span-least =
       let e : levelOf m ≡ Lb + d = let l = b≤m in omega arith in
-      span (P b) (P m) (2 ^ 22) Lb d w mm q (pow-pos 22) (lt-of-lt-of-le (pow-pos 125) (ch .levels .quietest)) (ch .levels .octave)
+      span (P b) (P m) (2 ^ 22) Lb d w mm q (levels .parts) (pow-pos 22) (lt-of-lt-of-le (pow-pos 125) (ch .levels .quietest)) (ch .levels .octave)
       (levels .encloses b (low-sound b m (ch .levels))) (subst (λ (L : ℕ). Enclosed (P m) (2 ^ 22) L w mm q) e (levels .encloses m (high-sound b m (ch .levels))))
 
   -- the level of a above b's, at most m's

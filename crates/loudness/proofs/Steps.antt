@@ -1,9 +1,9 @@
 -- The map on whole numbers: a quotient rounded to the nearest whole number, and what bounds on three logarithms then say of the exact map.
 -- The number of steps k is any number: the constant num / den says how many the logarithm's error allows. Assumes nothing.
-use mathlib.Core.Path.{_≡_, ap, subst}
+use mathlib.Core.Path.{_≡_, ap}
 use mathlib.Core.Logic.{_⊎_, inl, inr}
 use Prim.Native.Nat.{ℕ, _+_, _-_, _*_, _^_, _≤_, _<_}
-use native.Mathlib.Nat.{le-trans, le-of-eq, mul-comm, mul-pos, mul-le-mul-left, mul-le-mul-right, le-of-lt, le-div-iff-mul-le, div-lt-iff-lt-mul, lt-div-mul-add, div-mul-le-self, pow-zero, pow-le-pow-left}
+use native.Mathlib.Nat.{le-trans, le-of-eq, mul-comm, mul-pos, mul-le-mul-left, mul-le-mul-right, le-of-mul-le-mul-right, le-of-mul-le-mul-right, le-of-lt, le-div-iff-mul-le, div-lt-iff-lt-mul, lt-div-mul-add, div-mul-le-self, pow-zero, pow-le-pow-left}
 use native.Mathlib.Omega.{arith}
 use Rattle.exact.specs.Power.{AtMost, AtLeast}
 use Rattle.exact.proofs.Power.{least-of-more, least-shift}
@@ -88,11 +88,12 @@ module _ (A B M unit Lb n d w m q k num den : ℕ) (pq : 0 < q) (pu : 0 < unit) 
           rw (z, pow-zero M, pow-zero B) (mul-le-mul-right 1 (pow-le-pow-left ba (den * k)))
 
 -- a channel of an octave or more spans at least 1, less the errors
-pub span : (B M unit Lb d w m q : ℕ) → 0 < unit → 0 < B → 2 * B ≤ M → Enclosed B unit Lb w m q → Enclosed M unit (Lb + d) w m q → q ≤ d + w
-span B M unit Lb d w m q pu pb octave eb em =
-    let e : m ≡ m + 0 * q = omega arith in
-    let l : Lb + 1 * q ≤ Lb + d + w = exponents pu (least-of-more (mul-pos pb (omega arith)) (parts octave) (least-shift 1 0 (eb .at-least))) (subst (λ (z : ℕ). AtMost M unit (Lb + d + w) z q) e (em .at-most)) in
-    omega arith
+pub span : (B M unit Lb d w m q : ℕ) → 0 < q → 0 < unit → 0 < B → 2 * B ≤ M → Enclosed B unit Lb w m q → Enclosed M unit (Lb + d) w m q → q ≤ d + w
+span B M unit Lb d w m q pq pu pb octave eb em =
+    in-parts (exponents pu pq pq (least-of-more (mul-pos pb (omega arith)) (parts octave) (least-shift 1 0 (eb .at-least))) (em .at-most))
   where
     parts : 2 * B ≤ M → B * 2 ^ 1 * unit ≤ M * (unit * 2 ^ 0)
     parts h = omega (arith, mul-le-mul-right unit h)
+
+    in-parts : (Lb + 1 * q) * q + m * q ≤ (Lb + d + w) * q + (m + 0 * q) * q → q ≤ d + w
+    in-parts h = let l : Lb + 1 * q ≤ Lb + d + w = le-of-mul-le-mul-right (omega arith) pq in omega arith

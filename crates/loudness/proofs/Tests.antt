@@ -11,8 +11,9 @@ use lib.Ieee.{Float, binary32, fits, ofBits, le, add}
 use Rattle.units.specs.Units.{Number, P, N}
 use Rattle.units.proofs.Signs.{one-sided, plus-of, minus-of}
 use Rattle.units.proofs.Bits.{Is, put-positive}
-use Rattle.units.proofs.Order
-use Rattle.units.proofs.Order.{within-tests, outside-low, outside-high, finite-between, sizes-le, sizes-gt, zero-is, not-negative}
+use Rattle.units.proofs.Ranges
+use Rattle.units.proofs.Order.{sizes-le, sizes-gt}
+use Rattle.units.proofs.Ranges.{within-tests, outside-low, outside-high, finite-between, zero-is, not-negative}
 use Rattle.units.proofs.Doubles.{double}
 use Rattle.loudness.specs.Map.{Levels, Sound, Envelope}
 
@@ -93,7 +94,7 @@ module _ (a : Float) where
       }
 
   pub below-zero : le (ofBits binary32 0) a ≡ false → ¬ Envelope a
-  below-zero e h = Order.below-zero a (h .number) e (h .at-least-zero)
+  below-zero e h = Ranges.below-zero a (h .number) e (h .at-least-zero)
 
   pub above-one : le a (ofBits binary32 1065353216) ≡ false → ¬ Envelope a
   above-one e h =

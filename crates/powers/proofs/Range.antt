@@ -7,7 +7,8 @@ use native.Mathlib.Omega.{arith}
 use lib.Dec.{T}
 use lib.Ieee.{Float, binary32, fits, le, neg, ofBits}
 use Rattle.units.specs.Units.{mag, P, N, Number}
-use Rattle.units.proofs.Order.{le-true, le-false, finite-between}
+use Rattle.units.proofs.Order.{le-true, le-false}
+use Rattle.units.proofs.Ranges.{finite-between}
 use Rattle.units.proofs.Signs.{sides, plus-of, minus-of}
 use Rattle.units.proofs.Sums.{neg-sides, neg-number}
 use Rattle.units.proofs.Bits.{Is, put-positive}

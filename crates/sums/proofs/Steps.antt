@@ -10,7 +10,7 @@ use lib.Ieee.Scale.{finite}
 use Rattle.units.specs.Units.{P, N, Number}
 use Rattle.units.proofs.Near.{Near, near-scale}
 use Rattle.units.proofs.Signs.{size-sum}
-use Rattle.units.proofs.Order.{zero-units}
+use Rattle.units.proofs.Ranges.{zero-units}
 use Rattle.units.proofs.Result.{rounds-exact}
 use Rattle.units.proofs.Sums.{add-rounds, add-near}
 use Rattle.units.proofs.Products.{mul-near}

@@ -9,7 +9,7 @@ use lib.Dec.{T}
 use lib.Ieee.{Float}
 use lib.Ieee.Scale.{finite}
 use Rattle.units.specs.Units.{P, N, Number}
-use Rattle.units.proofs.Order.{zero-is, zero-units}
+use Rattle.units.proofs.Ranges.{zero-is, zero-units}
 use Rattle.units.proofs.Sums.{add-rounds, add-operands}
 use Rattle.units.proofs.Products.{mul-rounds}
 use Rattle.sums.specs.Sum.{Sum, nothing, product, plus, total, Intermediates, Factors, over, above, below, size, one, apart, NearBy, joined, roundings}

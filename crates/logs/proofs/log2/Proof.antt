@@ -3,7 +3,7 @@ use mathlib.Core.Path.{sym, ap, _∙_, subst}
 use Prim.Native.Nat.{ℕ, _^_, _<_}
 use lib.Dec.{T}
 use lib.Ieee.{binary32, ofBits, nanBits}
-use Rattle.units.proofs.Order.{not-finite}
+use Rattle.units.proofs.Ranges.{not-finite}
 use Rattle.logs.specs.Fixed.{Accepts}
 use Rattle.logs.specs.Log2.{roundedBits, log2Of}
 use Rattle.logs.proofs.Rounding.{real-bits}

@@ -2,7 +2,7 @@
 use mathlib.Core.Path.{sym, subst}
 use lib.Dec.{T}
 use lib.Ieee.{nanBits}
-use Rattle.units.proofs.Order.{above-zero, not-above-zero, not-finite}
+use Rattle.units.proofs.Ranges.{above-zero, not-above-zero, not-finite}
 use Rattle.units.proofs.Signs.{sign-plus, minus-of}
 use Rattle.roots.proofs.ReciprocalRoot.{promised, refused}
 use Rattle.roots.proofs.rsqrt.Statement.{statement}

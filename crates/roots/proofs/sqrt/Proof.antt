@@ -3,7 +3,7 @@ use mathlib.Core.Path.{_≡_, sym, subst}
 use lib.Dec.{T}
 use lib.Ieee.{nanBits}
 use Rattle.units.specs.Units.{mag}
-use Rattle.units.proofs.Order.{at-least-zero, below-zero, not-finite, eq-zero, eq-not-zero}
+use Rattle.units.proofs.Ranges.{at-least-zero, below-zero, not-finite, eq-zero, eq-not-zero}
 use Rattle.roots.specs.Sqrt.{Accepts}
 use Rattle.roots.proofs.SquareRoot.{above-zero, sqrt-zero, promised, refused}
 use Rattle.roots.proofs.sqrt.Statement.{statement}

@@ -5,7 +5,7 @@ use lib.Dec.{T}
 use lib.Ieee.{binary32, nanBits, ofBits, le}
 use lib.Ieee.Scale.{finite}
 use Rattle.units.specs.Units.{Number}
-use Rattle.units.proofs.Order.{finite-within, not-finite, not-finite-below}
+use Rattle.units.proofs.Ranges.{finite-within, not-finite, not-finite-below}
 use Rattle.sums.proofs.is_finite.Statement.{statement}
 use Rattle.sums.proofs.is_finite.Tie as tie
 
