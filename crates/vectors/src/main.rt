@@ -29,13 +29,13 @@ fn show(name: &[u8], b: u32, code: u32, result: f32) {
     io::write_all(OUT, b"\n");
 }
 
-fn sqrt(b: u32) {
+fn root(b: u32) {
     let mut r = 7.0;
     let code = earmath::ear_sqrt(float(b), &mut r);
     show(b"sqrt ", b, code, r);
 }
 
-fn rsqrt(b: u32) {
+fn reciprocal(b: u32) {
     let mut r = 7.0;
     let code = earmath::ear_rsqrt(float(b), &mut r);
     show(b"rsqrt ", b, code, r);
@@ -53,9 +53,33 @@ fn log2(b: u32) {
     show(b"log2 ", b, code, r);
 }
 
+// The step of an envelope value in the channel 2 ^ -8, 1, 10, 90; the result place held 7 before the call.
+fn loudness(a: u32) {
+    let mut r = 7;
+    let code = earmath::ear_loudness(0.00390625, 1.0, 10, 90, float(a), &mut r);
+    io::write_all(OUT, b"loudness ");
+    io::print_hex(OUT, a as u64, 8);
+    io::write_all(OUT, b" ");
+    io::print_decimal(OUT, code as u64);
+    io::write_all(OUT, b" ");
+    io::print_decimal(OUT, r as u64);
+    io::write_all(OUT, b"\n");
+}
+
+// The sum of four numbers, as a dot product with ones.
+fn sum(a: u32, b: u32, c: u32, d: u32) {
+    let mut r = 7.0;
+    let code = earmath::ear_dot(
+        &[float(a), float(b), float(c), float(d)],
+        &[1.0, 1.0, 1.0, 1.0],
+        &mut r,
+    );
+    show(b"sum ", a, code, r);
+}
+
 fn both(b: u32) {
-    sqrt(b);
-    rsqrt(b);
+    root(b);
+    reciprocal(b);
 }
 
 fn roots() {
@@ -122,8 +146,30 @@ fn logarithms() {
     log2(0x7fc0_0000);
 }
 
+fn sums() {
+    // 1e8 + 1 - 1e8 + 1, added in turn, is 1 and not 2; then an infinity, and sums that overflow
+    sum(0x4cbe_bc20, 0x3f80_0000, 0xccbe_bc20, 0x3f80_0000);
+    sum(0x7f80_0000, 0x3f80_0000, 0x3f80_0000, 0x3f80_0000);
+    sum(0x7f7f_ffff, 0x7f7f_ffff, 0xff7f_ffff, 0xff7f_ffff);
+}
+
+fn steps() {
+    // at and below b, the middle of the logarithms, at m, both zeros; then what is refused: above 1, below 0, a NaN
+    loudness(0x3b80_0000);
+    loudness(0x3b7f_ffff);
+    loudness(0x3d80_0000);
+    loudness(0x3f80_0000);
+    loudness(0x0000_0000);
+    loudness(0x8000_0000);
+    loudness(0x3f80_0001);
+    loudness(0x8000_0001);
+    loudness(0x7fc0_0000);
+}
+
 fn main() {
     roots();
     powers();
     logarithms();
+    sums();
+    steps();
 }
