@@ -1,10 +1,10 @@
 -- A polynomial t(x) = (plus(x) - minus(x)) / unit near a logarithm: 2 ^ (t lo / hi) ≤ bs(x) / (cs - ds)(x) ≤ 2 ^ (t hi / lo) on an interval, where a computed test passes.
 -- The slack is a factor of t, so that it holds down to t = 0.
-use mathlib.Core.Path.{_≡_, refl, sym, ap, _∙_}
+use mathlib.Core.Path.{_≡_, refl, sym, ap}
 use mathlib.Core.Bool.{Bool, true, false}
 use mathlib.Core.List.{List}
 use Prim.Native.Nat.{ℕ, suc, _+_, _*_, _^_, _≤_, _<_}
-use native.Mathlib.Nat.{le-of-eq, le-intro, le-of-mul-le-mul-left, add-comm, one-le-mul, one-le-pow}
+use native.Mathlib.Nat.{le-of-eq, add-comm, one-le-mul, one-le-pow}
 use native.Mathlib.Omega.{arith}
 use lib.Dec.{T}
 use lib.ListN.{length}
@@ -32,12 +32,6 @@ module _ (n : ℕ) (cs ds bs : List ℕ) (j : ℕ) (plus minus : List ℕ) (unit
     tested fits-us up =
         composite-sound up N n cs ds j (scale f plus) (scale f minus) (unit * g) m us (scale K bs)
         fits-cs fits-ds (rw length-scale fits-plus) (rw length-scale fits-minus) fits-us (rw length-scale (omega arith)) pos a es
-
-    -- t is not negative on the interval
-    pub exponent-sign : length us ≤ suc m → (up : Bool) → T (exponent up) → 0 < f → (x d : ℕ) → a * d ≤ N * x → N * x ≤ end a es * d → value j minus x d ≤ value j plus x d
-    exponent-sign fits-us up t fpos x d low high =
-        let c = tested fits-us up t x d low high in
-        le-of-mul-le-mul-left (le-intro (f * value j minus x d) (c .z) (add-comm (f * value j minus x d) (c .z) ∙ (rw (value-scale-by, value-scale-by) at (c .at-z)))) fpos
 
     -- at x / d of the interval, with t = z / (unit d ^ j) and E = (cs - ds)(x) above zero
     module _ (x d : ℕ) (dpos : 0 < d) (low : a * d ≤ N * x) (high : N * x ≤ end a es * d) (z E : ℕ) (at-z : z + value j minus x d ≡ value j plus x d) (rest : E + value n ds x d ≡ value n cs x d) (Epos : 0 < E) (width : 0 < unit * g) where

@@ -77,17 +77,20 @@ module _ (x : Float) where
   number-from : (lo : Float) → T (finite lo) → T (fits binary32 x) → le lo x ≡ true → le x (ofBits binary32 2139095039) ≡ true → Number x
   number-from lo f t a b = record { fits32 = t; is-finite = finite-between lo x (ofBits binary32 2139095039) f (greatest-is .number .is-finite) a b }
 
+  -- 0 ≤ x leaves nothing below zero
   pub not-negative : Number x → le (ofBits binary32 0) x ≡ true → N x ≡ 0
   not-negative h a =
       let l = le-true (ofBits binary32 0) x (zero-is .number) h a in
       let z = zero-units in
       elim (sides x) [ inl c ↦ c .1 | inr c ↦ omega arith ]
 
+  -- 0 ≤ x and x at most the greatest float: finite and at least zero
   pub at-least-zero : T (fits binary32 x) → le (ofBits binary32 0) x ≡ true → le x (ofBits binary32 2139095039) ≡ true → Number x × (N x ≡ 0)
   at-least-zero f a b =
       let h = number-from (ofBits binary32 0) (zero-is .number .is-finite) f a b in
       (h, not-negative h a)
 
+  -- 0 < x and x at most the greatest float: finite and above zero
   pub above-zero : T (fits binary32 x) → lt (ofBits binary32 0) x ≡ true → le x (ofBits binary32 2139095039) ≡ true → Number x × (N x ≡ 0) × (0 < mag x)
   above-zero f a b =
       let h = number-from (ofBits binary32 0) (zero-is .number .is-finite) f (lt-le (ofBits binary32 0) x a) b in
@@ -95,18 +98,21 @@ module _ (x : Float) where
       let z = zero-units in
       elim (sides x) [ inl c ↦ (h, c .1, omega arith) | inr c ↦ absurd (not-le-of-lt l (omega arith)) ]
 
+  -- where 0 ≤ x fails, a finite x is below zero
   pub below-zero : Number x → le (ofBits binary32 0) x ≡ false → N x ≡ 0 → ⊥
   below-zero h a e =
       let l = le-false (ofBits binary32 0) x (zero-is .number) h a in
       let z = zero-units in
       omega arith
 
+  -- where 0 < x fails, a finite x is not above zero
   pub not-above-zero : Number x → lt (ofBits binary32 0) x ≡ false → N x ≡ 0 → 0 < mag x → ⊥
   not-above-zero h a e k =
       let l = lt-false (ofBits binary32 0) x (zero-is .number) h a in
       let z = zero-units in
       omega (arith, size-sum x)
 
+  -- no finite float fails the test with the greatest float
   pub not-finite : Number x → le x (ofBits binary32 2139095039) ≡ false → ⊥
   not-finite h a = not-le-of-lt (le-false x (ofBits binary32 2139095039) h (greatest-is .number) a) (upto-greatest x h)
 
@@ -117,6 +123,7 @@ module _ (x : Float) where
       let z = zero-units in
       elim (sides x) [ inl c ↦ omega arith | inr c ↦ omega arith ]
 
+  -- a finite float that differs from zero has units
   pub eq-not-zero : Number x → eq x (ofBits binary32 0) ≡ false → 0 < mag x
   eq-not-zero h a =
       let z = zero-units in
@@ -132,6 +139,7 @@ module _ (x : Float) where
 
 -- ---- a float between two floats above zero, by the machine's tests
 module _ (lo hi x : Float) (L H : ℕ) (l : Is lo false L) (h : Is hi false H) where
+  -- lo ≤ x ≤ hi by the machine is L ≤ x ≤ H in units, and x is finite
   pub within-tests : T (fits binary32 x) → 0 < L → le lo x ≡ true → le x hi ≡ true → Number x × (N x ≡ 0) × (L ≤ P x) × (P x ≤ H)
   within-tests f pl a b =
       let n : Number x = record { fits32 = f; is-finite = finite-between lo x hi (l .number .is-finite) (h .number .is-finite) a b } in
@@ -145,13 +153,14 @@ module _ (lo hi x : Float) (L H : ℕ) (l : Is lo false L) (h : Is hi false H) w
       to-high : (px nx ph nh : ℕ) → ph ≡ H → nh ≡ 0 → nx ≡ 0 → px + nh ≤ ph + nx → px ≤ H
       to-high px nx ph nh p n z e = omega arith
 
-  -- outside, one of the tests fails
+  -- where lo ≤ x fails, x has fewer than L units
   pub outside-low : Number x → N x ≡ 0 → le lo x ≡ false → P x < L
   outside-low n z e = below-low (P lo) (N lo) (P x) (N x) (plus-of lo (l .sign) ∙ l .units) (minus-of lo (l .sign)) z (le-false lo x (l .number) n e)
     where
       below-low : (pl nl px nx : ℕ) → pl ≡ L → nl ≡ 0 → nx ≡ 0 → px + nl < pl + nx → px < L
       below-low pl nl px nx p n z e = omega arith
 
+  -- where x ≤ hi fails, x has more than H units
   pub outside-high : Number x → N x ≡ 0 → le x hi ≡ false → H < P x
   outside-high n z e = above-high (P x) (N x) (P hi) (N hi) (plus-of hi (h .sign) ∙ h .units) (minus-of hi (h .sign)) z (le-false x hi n (h .number) e)
     where

@@ -1,9 +1,7 @@
 -- `logs::slope` meets its contract: four steps are Horner's rule on the row. Assumes nothing.
-use mathlib.Core.Path.{_≡_, refl, sym}
-use mathlib.Core.List.{[], _∷_}
-use Prim.Native.Nat.{ℕ, _+_, _-_, _*_, _/_, _%_}
-use native.Mathlib.Nat.{zero-mul, zero-div, add-zero}
-use Rattle.fixed.specs.Horner.{horner}
+use mathlib.Core.Path.{sym}
+use Prim.Native.Nat.{_-_, _*_, _%_}
+use Rattle.fixed.proofs.Horner.{horner-one, horner-step}
 use Rattle.logs.specs.Fixed.{slope}
 use borrow.Author.Needs.{needs}
 use Rattle.logs.proofs.slope.Statement.{statement}
@@ -36,18 +34,20 @@ step-requires-3 c κs = search needs
 step-requires-4 : tie.Need-step-requires-4
 step-requires-4 c κs = search needs
 
--- Horner's rule, written out
-five : (D a b c d e v : ℕ) → horner D (a ∷ b ∷ c ∷ d ∷ e ∷ []) v ≡ a + (b + (c + (d + e * v / D) * v / D) * v / D) * v / D
-unfolding horner
-five D a b c d e v = rw (zero-mul, zero-div, add-zero) refl
-
 returns : tie.Need-returns
 unfolding slope
 returns c =
-    let t = c .before .before .before .before .before .of-sixteenth in
-    let v = (524288 - c .before .before .before .before .before .before .args .b % 524288) * 512 in
-    let r = t .result in
-    rw (c .step4 .ensures .0, c .before .step3 .ensures .0, c .before .before .step2 .ensures .0, c .before .before .before .step .ensures .0, ← t .ensures) (sym (five 4294967296 (r .0) (r .1) (r .2) (r .3) (r .4) v))
+    let s3 = c .before in
+    let s2 = s3 .before in
+    let s1 = s2 .before in
+    let t = s1 .before .before .of-sixteenth in
+    let v = (524288 - s1 .before .before .before .args .b % 524288) * 512 in
+    rw (← t .ensures)
+    (horner-step 4294967296 v _ _
+    (horner-step 4294967296 v _ _
+    (horner-step 4294967296 v _ _ (horner-step 4294967296 v _ _ (sym (horner-one 4294967296 _ v)) (s1 .step .ensures .0)) (s2 .step2 .ensures .0))
+    (s3 .step3 .ensures .0))
+    (c .step4 .ensures .0))
 
 pub slope-spec : {M : Type 1} → statement M
 slope-spec =
