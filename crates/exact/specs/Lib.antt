@@ -1,2 +1,4 @@
 pub mod Power
 pub mod Polynomial
+pub mod Series
+pub mod Circle
