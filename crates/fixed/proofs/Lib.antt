@@ -2,3 +2,4 @@ pub mod Take
 pub mod Nearest
 pub mod Horner
 pub mod Alternating
+pub mod Rounding

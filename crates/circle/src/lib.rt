@@ -1,0 +1,62 @@
+// Sine and cosine, of x and of pi x: whole numbers inside, one rounding at the end. An angle is its phase, a whole number of 2^-64 turns.
+
+mod phase;
+
+ghost use mathlib.Core.Path.{_≡_};
+ghost use Prim.Native.Nat.{_+_, _-_, _*_, _/_, _%_, _^_, _<_, _≤_};
+ghost use Rattle.units.specs.Units.{Number};
+ghost use Rattle.circle.specs.Kernel.{quarterSine};
+ghost use Rattle.circle.specs.Wave.{placeOf, waveBits, wave};
+ghost use Rattle.circle.specs.Promise.{SinPi, CosPi, Sin, Cos};
+
+// One step of Horner's rule with alternating signs: the product, cut off, is taken away.
+fn step(c: u64, p: u64, z: u64) -> u64
+    requires { ⌜ (p ≤ c) × (c < 2 ^ 32) × (z < 2 ^ 32) ⌝ }
+    ensures { λ r. ⌜ (r ≡ c - p * z / 4294967296) × (r ≤ c) ⌝ }
+{
+    c - p * z / 4294967296
+}
+
+// The sine of w / 2^32 quarter turns, in units of 2^-32: seven products of two 32-bit numbers.
+fn quarter_sine(w: u64) -> u64
+    requires { ⌜ w < 2 ^ 32 ⌝ }
+    ensures { λ r. ⌜ r ≡ quarterSine w ⌝ }
+{
+    let z = w * w / 4294967296;
+    let p4 = step(0x000a_8033, 0x0000_396a, z);
+    let p3 = step(0x0132_d0c8, p4, z);
+    let p2 = step(0x1466_bbde, p3, z);
+    let p1 = step(0xa55d_e723, p2, z);
+    let p0 = 0xc90f_daa2 - p1 * z / 8589934592;
+    w * p0 / 2147483648
+}
+
+// How far the phase is into its quarter; in the second and the fourth, how far it is from the quarter's end.
+fn place(phase: u64) -> u64
+    ensures { λ r. ⌜ (r ≡ placeOf phase) × (r < 2 ^ 32) ⌝ }
+{
+    let w = phase / 1073741824 % 4294967296;
+    if phase / 4611686018427387904 % 2 == 0 {
+        w
+    } else {
+        4294967295 - w
+    }
+}
+
+// The bit pattern of the sine of a phase: the size in its quarter, and the sign of its half. Where nothing is left it is +0.
+fn wave_bits(phase: u64) -> u32
+    ensures { λ r. ⌜ r ≡ waveBits phase ⌝ }
+{
+    let n = quarter_sine(place(phase));
+    if n == 0 {
+        return 0;
+    }
+    (phase / 9223372036854775808) as u32 * 0x8000_0000 + fixed::nearest(n, 117)
+}
+
+// The sine of a phase that is moved on by another.
+fn moved_on(phase: u64, by: u64) -> f32
+    ensures { λ r. ⌜ r ≡ wave ((phase + by) % 2 ^ 64) ⌝ }
+{
+    f32::from_bits(wave_bits(std::num::wrapping_add_u64(phase, by)))
+}
