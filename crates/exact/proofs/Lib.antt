@@ -9,3 +9,4 @@ pub mod Tight
 pub mod Near
 pub mod Logarithm
 pub mod Ratio
+pub mod Series
