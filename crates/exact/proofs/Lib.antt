@@ -10,3 +10,5 @@ pub mod Near
 pub mod Logarithm
 pub mod Ratio
 pub mod Series
+pub mod Binomial
+pub mod Addition
