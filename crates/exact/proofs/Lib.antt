@@ -9,3 +9,6 @@ pub mod Tight
 pub mod Near
 pub mod Logarithm
 pub mod Ratio
+pub mod Series
+pub mod Binomial
+pub mod Addition
