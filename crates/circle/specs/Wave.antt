@@ -3,8 +3,7 @@ use Prim.Native.Nat.{ℕ, _+_, _-_, _*_, _/_, _%_, _^_}
 use mathlib.Core.Bool.{cond}
 use lib.Dec.{eqb}
 use lib.Ieee.{Float, binary32, ofBits, toBits}
-use Rattle.units.specs.Units.{negative}
-use Rattle.fixed.specs.Nearest.{nearestBits}
+use Rattle.fixed.specs.Rounded.{nearestBits}
 use Rattle.circle.specs.Kernel.{quarterSine}
 use Rattle.circle.specs.Phase.{halfTurns, radians}
 
@@ -18,7 +17,7 @@ sizeOf t = quarterSine (placeOf t)
 
 -- the bit pattern of the sine: nearest to that size, below zero in the second half of the turn, and +0 where nothing is left
 unfoldable pub waveBits : ℕ → ℕ
-waveBits t = cond (eqb (sizeOf t) 0) 0 (t / 2 ^ 63 * 2147483648 + nearestBits (sizeOf t) 117)
+waveBits t = cond (eqb (sizeOf t) 0) 0 (t / 2 ^ 63 * 2147483648 + nearestBits (sizeOf t) 157)
 
 -- as a float
 unfoldable pub wave : ℕ → Float

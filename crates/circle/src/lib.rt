@@ -4,7 +4,6 @@ mod phase;
 
 ghost use mathlib.Core.Path.{_≡_};
 ghost use Prim.Native.Nat.{_+_, _-_, _*_, _/_, _%_, _^_, _<_, _≤_};
-ghost use Rattle.units.specs.Units.{Number};
 ghost use Rattle.circle.specs.Kernel.{quarterSine};
 ghost use Rattle.circle.specs.Wave.{placeOf, waveBits, wave};
 ghost use Rattle.circle.specs.Promise.{SinPi, CosPi, Sin, Cos};
@@ -51,12 +50,78 @@ fn wave_bits(phase: u64) -> u32
     if n == 0 {
         return 0;
     }
-    (phase / 9223372036854775808) as u32 * 0x8000_0000 + fixed::nearest(n, 117)
+    (phase / 9223372036854775808) as u32 * 0x8000_0000 + fixed::nearest_bits(n, 157)
 }
 
-// The sine of a phase that is moved on by another.
-fn moved_on(phase: u64, by: u64) -> f32
-    ensures { λ r. ⌜ r ≡ wave ((phase + by) % 2 ^ 64) ⌝ }
+// The sine of a phase, or with the sign 1 of its opposite: half a turn on.
+fn sine(phase: u64, sign: u32) -> f32
+    requires { ⌜ sign ≤ 1 ⌝ }
+    ensures { λ r. ⌜ r ≡ wave ((phase + sign * 2 ^ 63) % 2 ^ 64) ⌝ }
 {
-    f32::from_bits(wave_bits(std::num::wrapping_add_u64(phase, by)))
+    f32::from_bits(wave_bits(std::num::wrapping_add_u64(phase, sign as u64 * 9223372036854775808)))
+}
+
+// The cosine: the sine a quarter on.
+fn cosine(phase: u64) -> f32
+    ensures { λ r. ⌜ r ≡ wave ((phase + 2 ^ 62) % 2 ^ 64) ⌝ }
+{
+    f32::from_bits(wave_bits(std::num::wrapping_add_u64(phase, 4611686018427387904)))
+}
+
+// sin(pi x) for every finite x; code 1 and nothing written where x is a NaN or an infinity.
+pub fn sinpi(x: f32, out: &mut f32) -> u32
+    ensures { λ code. ⌜ SinPi x code (now (out .entry)) (now (out .exit)) ⌝ }
+{
+    if f32::from_bits(0xff7f_ffff) <= x {
+        if x <= f32::from_bits(0x7f7f_ffff) {
+            let b = f32::to_bits(x);
+            *out = sine(phase::half_turns(b % 2147483648), b / 2147483648);
+            return 0;
+        }
+        return 1;
+    }
+    1
+}
+
+// cos(pi x), likewise.
+pub fn cospi(x: f32, out: &mut f32) -> u32
+    ensures { λ code. ⌜ CosPi x code (now (out .entry)) (now (out .exit)) ⌝ }
+{
+    if f32::from_bits(0xff7f_ffff) <= x {
+        if x <= f32::from_bits(0x7f7f_ffff) {
+            *out = cosine(phase::half_turns(f32::to_bits(x) % 2147483648));
+            return 0;
+        }
+        return 1;
+    }
+    1
+}
+
+// sin x, x from -8192 to 8192; code 1 and nothing written where x is anything else.
+pub fn sin(x: f32, out: &mut f32) -> u32
+    ensures { λ code. ⌜ Sin x code (now (out .entry)) (now (out .exit)) ⌝ }
+{
+    if -8192.0 <= x {
+        if x <= 8192.0 {
+            let b = f32::to_bits(x);
+            *out = sine(phase::radians(b % 2147483648), b / 2147483648);
+            return 0;
+        }
+        return 1;
+    }
+    1
+}
+
+// cos x, likewise.
+pub fn cos(x: f32, out: &mut f32) -> u32
+    ensures { λ code. ⌜ Cos x code (now (out .entry)) (now (out .exit)) ⌝ }
+{
+    if -8192.0 <= x {
+        if x <= 8192.0 {
+            *out = cosine(phase::radians(f32::to_bits(x) % 2147483648));
+            return 0;
+        }
+        return 1;
+    }
+    1
 }
