@@ -12,3 +12,6 @@ pub mod Ratio
 pub mod Series
 pub mod Binomial
 pub mod Addition
+pub mod Within
+pub mod Rotation
+pub mod Limits
