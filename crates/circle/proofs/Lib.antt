@@ -1,0 +1,3 @@
+pub mod Stub
+pub mod Method
+pub mod Rounding
