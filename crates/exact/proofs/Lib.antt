@@ -15,3 +15,4 @@ pub mod Addition
 pub mod Within
 pub mod Rotation
 pub mod Limits
+pub mod Early
