@@ -16,3 +16,4 @@ pub mod Within
 pub mod Rotation
 pub mod Limits
 pub mod Early
+pub mod Round
