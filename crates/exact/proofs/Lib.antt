@@ -17,3 +17,4 @@ pub mod Rotation
 pub mod Limits
 pub mod Early
 pub mod Round
+pub mod Shift
