@@ -24,9 +24,9 @@ pub record Accepts (x : Float) : Type 0 where
   pub size : mag x ≤ 8192 * 2 ^ 149
 
 -- the angle pi x, where c / w is pi / 2 cut off, is 2 c x / w: so many units of 1 / (w 2 ^ 149). pi / 2 may be d / w more
--- the error against it: 17 2 ^ -29 + 8 |x| d / w, for enclosures as narrow as one likes
+-- the error against it: 17 2 ^ -29 + 2 |x| d / w, for enclosures as narrow as one likes
 abbrev pub openError : ℕ → ℕ → Float → ℕ
-openError d w x = waveError * (w * 2 ^ 149) + waveUnit * (8 * d * mag x)
+openError d w x = waveError * (w * 2 ^ 149) + waveUnit * (2 * d * mag x)
 
 abbrev pub openUnit : ℕ → ℕ
 openUnit w = waveUnit * (w * 2 ^ 149)

@@ -17,3 +17,6 @@ pub mod Within
 pub mod Rotation
 pub mod Limits
 pub mod Approximation
+pub mod Early
+pub mod Round
+pub mod Shift

@@ -101,7 +101,8 @@ pub record Small (p q b : ℕ) : Type 0 where
   pub halve : (n : ℕ) → from ≤ n → 2 * p ≤ suc n * q
   pub small : (n : ℕ) → from ≤ n → b * p ^ n ≤ over q n
 
-below-power : (d : ℕ) → d ≤ 2 ^ d
+-- powers of two pass every number
+pub below-power : (d : ℕ) → d ≤ 2 ^ d
 below-power zero = omega arith
 below-power (suc d) = rw pow-suc (omega (arith, below-power d, one-le-pow d 2 (omega arith)))
 
