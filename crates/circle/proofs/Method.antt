@@ -84,13 +84,13 @@ module _ (x d : ℕ) (pos : 0 < d) (small : x ≤ d) where
   sine-near = near (fourth 1) (fourth 3) (fourth-most 1) (fourth-most 3) (part true) (part false) (part-length true) (part-length false) sine-least sine-most
 
   -- the cosine, as read from the other end
-  cosine-mirrored :
+  pub cosine-near :
       LimitNear (partial (fourth 0) (quarter * x) (quarterUnit * d)) (partial (fourth 2) (quarter * x) (quarterUnit * d)) (over (quarterUnit * d)) (value 11 (mirrored true) x d)
       (value 11 (mirrored false) x d) (D * d ^ 11) 1 (4 * D)
-  cosine-mirrored = near (fourth 0) (fourth 2) (fourth-most 0) (fourth-most 2) (mirrored true) (mirrored false) (mirrored-length true) (mirrored-length false) cosine-least cosine-most
+  cosine-near = near (fourth 0) (fourth 2) (fourth-most 0) (fourth-most 2) (mirrored true) (mirrored false) (mirrored-length true) (mirrored-length false) cosine-least cosine-most
 
 -- what is read from the other end is the polynomial at 1 - t
-mirrored-same : (x y d : ℕ) → y + x ≡ d → value 11 (mirrored true) x d + value 11 (part false) y d ≡ value 11 (mirrored false) x d + value 11 (part true) y d
+pub mirrored-same : (x y d : ℕ) → y + x ≡ d → value 11 (mirrored true) x d + value 11 (part false) y d ≡ value 11 (mirrored false) x d + value 11 (part true) y d
 unfolding mirrored
 mirrored-same x y d whole =
     rw (value-add 11 (mirror 1 11 (part true) .0) (mirror 1 11 (part false) .1) x d, value-add 11 (mirror 1 11 (part true) .1) (mirror 1 11 (part false) .0) x d)

@@ -1,6 +1,6 @@
 -- Horner's rule with alternating signs in whole numbers against the exact polynomial, at an argument y / e of which only the cut-off z / D is at hand.
 -- A floor makes what is taken away smaller, and the next one makes that larger: so errors count on one side only every second time. Assumes nothing.
-use mathlib.Core.Path.{_≡_, ap, subst}
+use mathlib.Core.Path.{_≡_, refl, ap, _∙_, subst}
 use mathlib.Core.Bool.{Bool, true, false, _&&_}
 use mathlib.Core.List.{List, [], _∷_}
 use Prim.Native.Nat.{ℕ, zero, suc, _+_, _-_, _*_, _/_, _^_, _≤_, _<_}
@@ -71,6 +71,16 @@ pub alternating-most : (D c : ℕ) (cs : List ℕ) (z : ℕ) → alternating D (
 unfolding alternating
 alternating-most D c cs z = omega arith
 
+-- no steps at all
+pub alternating-one : (D c z : ℕ) → alternating D (c ∷ []) z ≡ c
+unfolding alternating
+alternating-one D c z = rw (zero-mul, zero-div, sub-zero) refl
+
+-- one step more
+pub alternating-step : (D z c : ℕ) (cs : List ℕ) {p r : ℕ} → p ≡ alternating D cs z → r ≡ c - p * z / D → r ≡ alternating D (c ∷ cs) z
+unfolding alternating
+alternating-step D z c cs h e = e ∙ ap (λ (p : ℕ). c - p * z / D) h
+
 module _ (n c : ℕ) (cs : List ℕ) (y e : ℕ) where
   plus-value : value (suc n) (signed true (c ∷ cs)) y e ≡ 1 * c * (e ^ n * e) + y * value n (signed false cs) y e
   unfolding signed value
@@ -94,8 +104,7 @@ module _ (D z y e s : ℕ) (pos : 0 < D) (low : z * e ≤ y * D) (high : y * D �
   taken p = le-of-mul-le-mul-right (le-trans (div-mul-le-self (p * z) D) (mul-le-mul-left p unit)) pos
 
   last-close : (n c : ℕ) → Close D (alternating D (c ∷ []) z) (e ^ n) (value n (signed true (c ∷ [])) y e) (value n (signed false (c ∷ [])) y e) 0 0
-  unfolding alternating
-  last-close n c = rw (zero-mul z, zero-div D, sub-zero c, plus-one n c [] y e, minus-one n c [] y e) (record { most = omega arith; least = omega arith })
+  last-close n c = rw (alternating-one D c z, plus-one n c [] y e, minus-one n c [] y e) (record { most = omega arith; least = omega arith })
 
   -- what it makes is the polynomial, but for what is lost
   pub alternating-close : (n : ℕ) (cs : List ℕ) → length cs ≤ suc n → T (falling cs)

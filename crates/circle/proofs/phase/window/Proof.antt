@@ -1,0 +1,57 @@
+-- `circle::phase::window` meets its contract: the three words are the table's, and their digits do not meet. Assumes nothing.
+use borrow.Author.Needs.{needs}
+use mathlib.Core.Path.{_≡_, refl}
+use Prim.Native.Nat.{_+_, _-_, _*_, _/_, _%_, _^_, _<_}
+use native.Mathlib.Nat.{lt-of-le-of-lt, le-of-eq}
+use native.Mathlib.Omega.{arith}
+use Rattle.circle.specs.Phase.{windowOf}
+use Rattle.circle.proofs.Window.{window-few}
+use Rattle.circle.proofs.phase.window.Statement.{statement}
+use Rattle.circle.proofs.phase.window.Tie as tie
+
+three-words-requires : tie.Need-three-words-requires
+three-words-requires c κs = search needs
+
+cast-result : tie.Need-cast-result
+cast-result c = search needs
+
+mul-result : tie.Need-mul-result
+mul-result c = search needs
+
+cast-result-2 : tie.Need-cast-result-2
+cast-result-2 c = search needs
+
+add-result : tie.Need-add-result
+add-result c = search needs
+
+cast-result-3 : tie.Need-cast-result-3
+cast-result-3 c = search needs
+
+shl-result : tie.Need-shl-result
+shl-result c = search needs
+
+cast-result-4 : tie.Need-cast-result-4
+cast-result-4 c = search needs
+
+sub-result : tie.Need-sub-result
+sub-result c = search needs
+
+cast-result-5 : tie.Need-cast-result-5
+cast-result-5 c = search needs
+
+shr-result : tie.Need-shr-result
+shr-result c = search needs
+
+returns : tie.Need-returns
+unfolding windowOf
+returns c =
+    let t = c .before .before .before .three-words in
+    rw (t .ensures .0, t .ensures .1, t .ensures .2) refl
+
+add-result-2 : tie.Need-add-result-2
+add-result-2 c = omega (arith, lt-of-le-of-lt (le-of-eq (returns c)) (window-few (c .before .before .before .before .args .i) (omega arith)))
+
+pub window-spec : {M : Type 1} → statement M
+window-spec =
+    tie.close
+    (tie.spec three-words-requires cast-result mul-result cast-result-2 add-result cast-result-3 shl-result cast-result-4 sub-result cast-result-5 shr-result add-result-2 returns)
