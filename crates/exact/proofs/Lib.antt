@@ -18,3 +18,5 @@ pub mod Limits
 pub mod Early
 pub mod Round
 pub mod Shift
+pub mod Quarter
+pub mod Turns
