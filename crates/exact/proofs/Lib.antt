@@ -20,3 +20,4 @@ pub mod Round
 pub mod Shift
 pub mod Quarter
 pub mod Turns
+pub mod Zero
