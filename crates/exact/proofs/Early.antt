@@ -1,7 +1,7 @@
 -- Bounds on cosine and sine from their first terms: 1 - t ^ 2 ≤ cos t ≤ 1 and 0 ≤ sin t ≤ t, for t = p / q not too large, by every partial sum from the fifth on.
 use mathlib.Core.Path.{_≡_, refl}
 use Prim.Native.Nat.{ℕ, suc, _+_, _*_, _^_, _≤_, _<_}
-use native.Mathlib.Nat.{mul-pos, pow-suc, mul-le-mul, mul-le-mul-left, mul-le-mul-right, le-of-mul-le-mul-right}
+use native.Mathlib.Nat.{mul-pos, pow-suc, mul-le-mul, mul-le-mul-left, mul-le-mul-right, le-of-mul-le-mul-left, le-of-mul-le-mul-right}
 use native.Mathlib.Omega.{arith}
 use Rattle.exact.specs.Series.{partial, over, fourth}
 use Rattle.exact.proofs.Series.{partial-grows, partial-tail, fourth-most}
@@ -67,6 +67,10 @@ module _ (p q n : ℕ) (many : 5 ≤ n) where
     -- 1 - t ^ 2 ≤ cos t
     pub cosine-least : 2 * p ≤ 3 * q → q * q * (partial (fourth 2) p q n + over q n) ≤ q * q * partial (fourth 0) p q n + p * p * over q n
     cosine-least less = omega (arith, mul-le-mul-left (q * q) zeroth-least, second-most less)
+
+    -- 0 ≤ cos t, where t ≤ 1
+    pub cosine-plus : p ≤ q → partial (fourth 2) p q n ≤ partial (fourth 0) p q n
+    cosine-plus less = le-of-mul-le-mul-left (omega (arith, cosine-least (omega arith), mul-le-mul-right (over q n) (mul-le-mul less less))) (mul-pos pos pos)
 
     -- 0 ≤ sin t
     pub sine-least : partial (fourth 3) p q n ≤ partial (fourth 1) p q n

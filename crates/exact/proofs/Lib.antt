@@ -20,3 +20,6 @@ pub mod Approximation
 pub mod Early
 pub mod Round
 pub mod Shift
+pub mod Quarter
+pub mod Turns
+pub mod Zero
