@@ -1,7 +1,7 @@
-pub mod Stub
 pub mod Method
 pub mod Rounding
-pub mod Quarter
 pub mod Pattern
+pub mod Turn
 pub mod Shifts
 pub mod Window
+pub mod Reduction

@@ -17,7 +17,7 @@ use Rattle.exact.proofs.Series.{fourth-most}
 use Rattle.exact.proofs.Approximation.{not-above, near-polynomial}
 use Rattle.fixed.proofs.Alternating.{signed}
 use Rattle.circle.specs.Kernel.{first, rest}
-use Rattle.circle.proofs.Stub.{quarter, quarterUnit}
+use Rattle.exact.proofs.Quarter.{quarter, quarterUnit}
 
 -- all coefficients, for the powers of t ^ 2, in units of 2 ^ -32
 abbrev pub D : ℕ
