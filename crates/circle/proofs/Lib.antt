@@ -5,3 +5,5 @@ pub mod Turn
 pub mod Shifts
 pub mod Window
 pub mod Reduction
+pub mod Join
+pub mod Taken

@@ -1,8 +1,8 @@
 -- The argument: from a phase to the angle that it stands for, whose cosine and sine are as near, but for what was cut off. Assumes nothing.
 use mathlib.Core.Path.{_≡_, sym, ap, _∙_}
 use mathlib.Core.Logic.{inl, inr}
-use Prim.Native.Nat.{ℕ, suc, _+_, _-_, _*_, _/_, _%_, _^_, _≤_, _<_}
-use native.Mathlib.Nat.{le-trans, le-of-eq, le-of-lt, lt-of-lt-of-le, mul-comm, mul-assoc, mul-pos, mul-le-mul, mul-le-mul-left, mul-le-mul-right, mul-lt-mul-of-pos-right, div-mul-le-self, lt-div-mul-add, div-lt-iff-lt-mul}
+use Prim.Native.Nat.{ℕ, suc, _+_, _-_, _*_, _/_, _%_, _^_, _≤_, _<_, zero-le}
+use native.Mathlib.Nat.{zero-mul, mul-zero, le-trans, le-of-eq, le-of-lt, lt-of-lt-of-le, lt-of-le-of-lt, le-of-mul-le-mul-right, mul-comm, mul-assoc, mul-pos, mul-le-mul, mul-le-mul-left, mul-le-mul-right, mul-lt-mul-of-pos-right, div-mul-le-self, lt-div-mul-add, div-lt-iff-lt-mul}
 use native.Mathlib.Omega.{arith}
 use lib.Dec.{lit<, lit≤}
 use lib.Pow.{pow-add, pow-pos, pow-mono}
@@ -84,3 +84,88 @@ module _ (M : ℕ) (few : M < 2 ^ 277) (c d w : ℕ) (wpos : 0 < w) (turn : Quar
   pub half-arrived : Both (2 * c * M) (w * 2 ^ 149) (plusOf ((half + 2 ^ 62) % 2 ^ 64)) (minusOf ((half + 2 ^ 62) % 2 ^ 64)) (plusOf (half % 2 ^ 64)) (minusOf (half % 2 ^ 64)) D
       (7 * (w * 2 ^ 149 * K) + D * gap) (D * (w * 2 ^ 149 * K))
   half-arrived = arrived half half-small (2 * c * M) (w * 2 ^ 149) lost gap (mul-pos wpos (pow-pos 149)) half-near half-low half-high
+
+-- ---- x itself, of M units: m digits times the turns of 2 ^ i radians
+quarter-pos : 0 < 4 * quarter
+unfolding quarter
+quarter-pos = lit< tt
+
+module _ (i : ℕ) where
+  -- these turns against their exact number
+  turns-most : turnsOf i * (4 * quarter) ≤ 2 ^ i * quarterUnit
+  unfolding turnsOf
+  turns-most = div-mul-le-self (2 ^ i * quarterUnit) (4 * quarter)
+
+  turns-least : 2 ^ i * quarterUnit ≤ turnsOf i * (4 * quarter) + 4 * quarter
+  unfolding turnsOf
+  turns-least = le-of-lt (lt-div-mul-add quarter-pos)
+
+  turns-few : turnsOf i ≤ 2 ^ i
+  turns-few = le-of-mul-le-mul-right (le-trans turns-most (mul-le-mul-left (2 ^ i) less)) quarter-pos
+    where
+      less : quarterUnit ≤ 4 * quarter
+      less = unfold quarter quarterUnit in lit≤ tt
+
+-- far more places than any float asks for
+module _ (M m i : ℕ) (few : m < 2 ^ 24) (place : i ≤ 175) where
+  abbrev turns : ℕ
+  turns = m * turnsOf i
+
+  abbrev cut : ℕ
+  cut = quarter * 2 ^ 173
+
+  turns-small : turns < 2 ^ 200
+  turns-small =
+      let l : turnsOf i ≤ 2 ^ 175 = le-trans (turns-few i) (pow-mono place) in
+      lt-of-le-of-lt (mul-le-mul-left m l) (lt-of-lt-of-le (mul-lt-mul-of-pos-right few (pow-pos 175)) (lit≤ tt))
+
+  cut-near : cut * 2 ^ 34 ≤ 2 ^ 149 * K
+  unfolding quarter quarterUnit
+  cut-near = lit≤ tt
+
+  arrives : quarter * turns * 2 ^ 149 ≤ M * K + (cut + 0) → M * K ≤ quarter * turns * 2 ^ 149 + (cut + 0) →
+      Both M (2 ^ 149) (plusOf ((turns + 2 ^ 62) % 2 ^ 64)) (minusOf ((turns + 2 ^ 62) % 2 ^ 64)) (plusOf (turns % 2 ^ 64)) (minusOf (turns % 2 ^ 64)) D 7 D
+  arrives low high = both-wider (mul-pos (lit< tt) (mul-pos (pow-pos 149) (mul-pos quarter-unit-pos (pow-pos 62)))) (same (2 ^ 149 * K)) (arrived turns turns-small M (2 ^ 149) cut 0 (pow-pos 149) cut-near low high)
+    where
+      same : (Q : ℕ) → (7 * Q + D * 0) * D ≤ 7 * (D * Q)
+      same Q = omega arith
+
+  -- from 2 ^ -40 or so on
+  module _ (units : M ≡ m * 2 ^ (i + 85)) where
+    exact-units : M * K ≡ m * (2 ^ i * quarterUnit) * 2 ^ 147
+    exact-units = rw (units, pow-add 2 i 85) (through (2 ^ i) (2 ^ 85) (2 ^ 62) quarterUnit)
+      where
+        through : (I a b u : ℕ) → m * (I * a) * (u * b) ≡ m * (I * u) * (a * b)
+        through I a b u = omega arith
+
+    turns-low : quarter * turns * 2 ^ 149 ≤ M * K + (cut + 0)
+    turns-low = rw exact-units (through (turnsOf i) (2 ^ i * quarterUnit) quarter (2 ^ 147) (cut + 0) (turns-most i))
+      where
+        through : (W X q a h : ℕ) → W * (4 * q) ≤ X → q * (m * W) * (4 * a) ≤ m * X * a + h
+        through W X q a h l = omega (arith, mul-le-mul-left (m * a) l)
+
+    turns-high : M * K ≤ quarter * turns * 2 ^ 149 + (cut + 0)
+    turns-high = rw exact-units (through (turnsOf i) (2 ^ i * quarterUnit) quarter (2 ^ 147) (turns-least i))
+      where
+        through : (W X q a : ℕ) → X ≤ W * (4 * q) + 4 * q → m * X * a ≤ q * (m * W) * (4 * a) + (q * (2 ^ 26 * a) + 0)
+        through W X q a l = let f : m ≤ 2 ^ 24 = le-of-lt few in omega (arith, mul-le-mul-left (m * a) l, mul-le-mul-right (q * a) f)
+
+    pub turns-arrived :
+        Both M (2 ^ 149) (plusOf ((turns + 2 ^ 62) % 2 ^ 64)) (minusOf ((turns + 2 ^ 62) % 2 ^ 64)) (plusOf (turns % 2 ^ 64)) (minusOf (turns % 2 ^ 64)) D 7 D
+    turns-arrived = arrives turns-low turns-high
+
+-- so little that no turns are left
+pub still-arrived : (M : ℕ) → M < 2 ^ 110 → Both M (2 ^ 149) (plusOf (2 ^ 62)) (minusOf (2 ^ 62)) (plusOf 0) (minusOf 0) D 7 D
+still-arrived M little = rw (zero-mul (turnsOf 0)) at (arrives M 0 0 (lit< tt) (lit≤ tt) (none quarter (turnsOf 0) (M * K + (quarter * 2 ^ 173 + 0))) most)
+  where
+    none : (q t n : ℕ) → q * (0 * t) * 2 ^ 149 ≤ n
+    none q t n = rw (zero-mul t, mul-zero q, zero-mul) zero-le
+
+    most : M * K ≤ quarter * (0 * turnsOf 0) * 2 ^ 149 + (quarter * 2 ^ 173 + 0)
+    most = le-trans (mul-le-mul-right K (le-of-lt little)) (le-trans less (more (quarter * (0 * turnsOf 0) * 2 ^ 149) (quarter * 2 ^ 173)))
+      where
+        more : (a b : ℕ) → b ≤ a + (b + 0)
+        more a b = omega arith
+
+        less : 2 ^ 110 * K ≤ quarter * 2 ^ 173
+        less = unfold quarter quarterUnit in lit≤ tt

@@ -8,6 +8,7 @@ use native.Mathlib.Omega.{arith}
 use lib.Dec.{lit<, lit≤}
 use lib.Pow.{pow-pos}
 use borrow.Author.Tests.{eq-eqb, ne-eqb, lt-ltb, le-ltb}
+use Rattle.units.proofs.Naturals.{le-or-lt}
 use Rattle.exact.specs.Polynomial.{value}
 use Rattle.exact.proofs.Approximation.{near-instead}
 use Rattle.exact.proofs.Limits.{near-wider, Both, both-wider, both-same}
@@ -158,3 +159,27 @@ module _ (t : ℕ) (small : t < 2 ^ 200) where
       go (suc (suc zero)) e = instead (at3 on r rest-on (omega arith)) (at2 here r rest (omega arith)) (placed (wider (turned2 k qpos bpos within e)))
       go (suc (suc (suc zero))) e = instead (at0 on r rest-on (omega arith)) (at3 here r rest (omega arith)) (placed (wider (turned3 k qpos bpos within e)))
       go (suc (suc (suc (suc i)))) e = absurd (omega arith)
+
+-- ---- half a turn on, the opposite
+module _ (t : ℕ) (few : t < 2 ^ 64) where
+  abbrev across : ℕ
+  across = (t + 2 ^ 63) % 2 ^ 64
+
+  same-size : sizeOf across ≡ sizeOf t
+  unfolding sizeOf placeOf
+  same-size =
+      let e : across / 2 ^ 62 % 2 ≡ t / 2 ^ 62 % 2 = omega arith in
+      let f : across / 2 ^ 30 % 2 ^ 32 ≡ t / 2 ^ 30 % 2 ^ 32 = omega arith in
+      rw (e, f) refl
+
+  pub opposite : (plusOf across ≡ minusOf t) × (minusOf across ≡ plusOf t)
+  opposite = elim (le-or-lt (2 ^ 63) t) [
+    | inl h ↦
+        let (p, m) = under t _ refl h refl in
+        let (p′, m′) = above across _ refl (omega arith) same-size in
+        (p′ ∙ sym m, m′ ∙ sym p)
+    | inr h ↦
+        let (p, m) = above t _ refl h refl in
+        let (p′, m′) = under across _ refl (omega arith) same-size in
+        (p′ ∙ sym m, m′ ∙ sym p)
+  ]

@@ -55,7 +55,7 @@ fn beyond(e: u32) -> u32
 
 // The size itself, at most 8192: its digits times the window at its exponent. Whole turns fall out of the product.
 pub fn radians(b: u32) -> u64
-    requires { ⌜ b ≤ 140 * 8388608 ⌝ }
+    requires { ⌜ b < 141 * 8388608 ⌝ }
     ensures { λ r. ⌜ r ≡ radians b ⌝ }
 {
     let m = (b % 8388608 + 8388608) as u64;

@@ -42,6 +42,13 @@ module _ (f g : ℕ → ℕ) (f-small : (k : ℕ) → f k ≤ 1) (g-small : (k :
 
 -- ---- another fraction
 
+-- near P - N over U, so near the same fraction with larger numbers
+pub near-finer : {F G O : ℕ → ℕ} {P N U a b : ℕ} (k : ℕ) → LimitNear F G O P N U a b → LimitNear F G O (P * k) (N * k) (U * k) a b
+near-finer {F} {G} {O} {P} {N} {U} {a} {b} k h = record { from = h .from; least = λ n l. side P N (F n) (G n) (O n) (h .least n l); most = λ n l. side N P (G n) (F n) (O n) (h .most n l) }
+  where
+    side : (P N F G O : ℕ) → b * (P * O + U * G) ≤ b * (N * O + U * F) + a * (U * O) → b * (P * k * O + U * k * G) ≤ b * (N * k * O + U * k * F) + a * (U * k * O)
+    side P N F G O x = omega (arith, mul-le-mul-left k x)
+
 -- near P - N over U E, so near any P′ - N′ over U that is within κ units of it
 pub near-instead : {F G O : ℕ → ℕ} {P N U E a b : ℕ} (P′ N′ κ : ℕ) → 0 < E → P′ * E + N ≤ P + N′ * E + κ * E → P + N′ * E ≤ P′ * E + N + κ * E →
     LimitNear F G O P N (U * E) a b → LimitNear F G O P′ N′ U (a * U + κ * b) (b * U)

@@ -23,3 +23,4 @@ pub mod Shift
 pub mod Quarter
 pub mod Turns
 pub mod Zero
+pub mod Angles

@@ -3,3 +3,4 @@ pub mod Nearest
 pub mod Horner
 pub mod Alternating
 pub mod Rounding
+pub mod Either
