@@ -7,3 +7,4 @@ pub mod Window
 pub mod Reduction
 pub mod Join
 pub mod Taken
+pub mod Promise

@@ -1,11 +1,11 @@
 -- Sine and cosine of an angle of either sign, from those of its size.
 use mathlib.Core.Path.{_≡_, _∙_}
-use Prim.Native.Nat.{ℕ, _+_, _*_}
+use Prim.Native.Nat.{ℕ, _+_, _*_, _≤_, _<_}
 use native.Mathlib.Nat.{add-zero, zero-add, zero-mul}
 use Rattle.exact.specs.Series.{partial, over, fourth, LimitNear}
 use Rattle.exact.specs.Circle.{Sine, Cosine}
 use Rattle.exact.proofs.Series.{partial-zero}
-use Rattle.exact.proofs.Limits.{near-minus}
+use Rattle.exact.proofs.Limits.{near-minus, near-wider}
 
 -- the sums of sine at zero are zero
 none1 : (q n : ℕ) → partial (fourth 1) 0 q n ≡ 0
@@ -34,3 +34,11 @@ module _ {p q P N U a b : ℕ} where
   -- cos (- p / q), the same
   pub cosine-minus : LimitNear (partial (fourth 0) p q) (partial (fourth 2) p q) (over q) P N U a b → Cosine 0 p q P N U a b
   cosine-minus h = record { near = rw (zero-add p) h }
+
+-- within a / b, so within what is more
+module _ {p m q P N U a b a′ b′ : ℕ} (pos : 0 < b) (more : a * b′ ≤ a′ * b) where
+  pub sine-wider : Sine p m q P N U a b → Sine p m q P N U a′ b′
+  sine-wider h = record { near = near-wider pos more (h .near) }
+
+  pub cosine-wider : Cosine p m q P N U a b → Cosine p m q P N U a′ b′
+  cosine-wider h = record { near = near-wider pos more (h .near) }
