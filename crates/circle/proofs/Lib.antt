@@ -7,4 +7,6 @@ pub mod Window
 pub mod Reduction
 pub mod Join
 pub mod Taken
+pub mod Near
+pub mod Whole
 pub mod Promise

@@ -1,116 +1,86 @@
--- The four promises, put together from the rooms: Method and Rounding (the kernel), Turn (every phase), Reduction and Taken (the argument), Join (the last rounding).
--- Assumes nothing.
-use mathlib.Core.Path.{_≡_, refl, sym, ap, ap₂, subst, _∙_}
-use mathlib.Core.Bool.{Bool, true, false, cond}
-use Prim.Native.Nat.{ℕ, _+_, _*_, _/_, _%_, _^_, _≤_, _<_}
-use native.Mathlib.Nat.{le-trans, le-of-eq, mul-pos, mul-zero, mod-lt, mul-le-mul-right}
+-- The four promises: of an accepted x code 0 and the value, of any other code 1 and nothing written. Assumes nothing.
+use mathlib.Core.Path.{_≡_, sym, subst, _∙_}
+use mathlib.Core.Logic.{inr}
+use mathlib.Core.Bool.{true, false}
+use Prim.Native.Nat.{ℕ, _+_, _*_, _^_, _≤_, _<_}
 use native.Mathlib.Omega.{arith}
-use lib.Dec.{lit<, lit≤}
-use lib.Pow.{pow-pos}
-use lib.Ieee.{Float, binary32, toBits}
-use Rattle.units.specs.Units.{mag, negative, P, N, Number}
-use Rattle.units.proofs.Size.{mag-lt}
+use lib.Dec.{T}
+use lib.Ieee.{Float, binary32, fits, le, neg, ofBits}
+use Rattle.units.specs.Units.{mag, P, N, Number}
 use Rattle.units.proofs.Answers.{given, declined}
-use Rattle.exact.specs.Circle.{Sine, Cosine, QuarterTurn}
-use Rattle.exact.proofs.Quarter.{quarterUnit, quarter-unit-pos}
-use Rattle.exact.proofs.Angles.{sine-wider, cosine-wider}
-use Rattle.fixed.proofs.Either.{sign-bit}
-use Rattle.circle.specs.Phase.{halfTurns, radians}
-use Rattle.circle.specs.Wave.{sizeOf, wave, sinPiOf, cosPiOf, sinOf, cosOf}
-use Rattle.circle.specs.Promise.{waveError, waveUnit, Accepts, openError, openUnit, atQuarter, SinPi, CosPi, Sin, Cos}
-use Rattle.circle.proofs.Method.{D}
-use Rattle.circle.proofs.Pattern.{Signed, wave-signed, size-top, units-top}
-use Rattle.circle.proofs.Reduction.{half-arrived}
-use Rattle.circle.proofs.Taken.{sizeBits, half-turns-taken, radians-taken}
-use Rattle.circle.proofs.Join.{sine-joined, cosine-joined}
+use Rattle.units.proofs.Bits.{Is, put-positive}
+use Rattle.units.proofs.Between.{within-size, below-bound, above-bound}
+use Rattle.exact.specs.Circle.{Sine, Cosine}
+use Rattle.circle.specs.Wave.{sinPiOf, cosPiOf, sinOf, cosOf}
+use Rattle.circle.specs.Promise.{waveError, waveUnit, openError, openUnit, atQuarter, Accepts, SinPi, CosPi, Sin, Cos}
+use Rattle.circle.proofs.Near.{less, wave-number, wave-inside, sinPi-is, cosPi-is, sin-is, cos-is, sinPi-near, cosPi-near, sin-near, cos-near}
+use Rattle.circle.proofs.Whole.{sinPi-whole, cosPi-whole}
 
--- ---- every result
+-- ---- the range of sin x and cos x
 
--- is finite, and from -1 to 1
-module _ (t : ℕ) (few : t < 2 ^ 64) where
-  pub wave-number : Number (wave t)
-  wave-number = wave-signed t few .number
+-- 8192
+abbrev top : Float
+top = ofBits binary32 0x46000000
 
-  pub wave-inside : mag (wave t) ≤ 2 ^ 149
-  wave-inside = le-trans (le-of-eq (wave-signed t few .size)) (units-top (sizeOf t) (size-top t))
+top-is : Is top false (8192 * 2 ^ 149)
+top-is = put-positive 0x800000 139 (inr (omega arith)) (omega arith) (omega arith)
 
-less : (n : ℕ) → n % 2 ^ 64 < 2 ^ 64
-less n = mod-lt n (pow-pos 64)
+module _ (x : Float) where
+  -- both tests passed
+  pub in-range : T (fits binary32 x) → le (neg top) x ≡ true → le x top ≡ true → Accepts x
+  in-range f a b = let (n, l) = within-size top x (8192 * 2 ^ 149) top-is f a b in record { number = n; size = l }
 
--- ---- pi x
+  -- the first failed
+  pub too-low : le (neg top) x ≡ false → ¬ Accepts x
+  too-low e a = below-bound top x (8192 * 2 ^ 149) top-is (a .number) (a .size) e
 
-module _ (x : Float) (h : Number x) where
-  abbrev half : ℕ
-  half = mag x / 2 ^ 86
+  -- the second failed
+  pub too-high : le x top ≡ false → ¬ Accepts x
+  too-high e a = above-bound top x (8192 * 2 ^ 149) top-is (a .number) (a .size) e
 
-  sinPi-is : sinPiOf x ≡ wave ((half % 2 ^ 64 + cond (negative x) 1 0 * 2 ^ 63) % 2 ^ 64)
-  unfolding sinPiOf
-  sinPi-is = rw (half-turns-taken x h, sign-bit x h) refl
+-- ---- sin (pi x)
+module _ (x before : Float) where
+  pub sinPi-promised : (after : Float) → Number x → after ≡ sinPiOf x → SinPi x 0 before after
+  sinPi-promised after h e = record {
+    answers = given sinPiOf x before after h e (subst Number (sym (e ∙ sinPi-is x h)) (wave-number _ (less _)));
+    near = λ a c d w pos turn. subst (λ (r : Float). Sine (2 * c * P x) (2 * c * N x) (w * 2 ^ 149) (P r) (N r) (2 ^ 149) (openError d w x) (openUnit w)) (sym e) (sinPi-near x h c d w pos turn);
+    whole = λ a k l w. e ∙ sinPi-whole x h k l w;
+    inside = λ a. subst (λ (r : Float). mag r ≤ 2 ^ 149) (sym (e ∙ sinPi-is x h)) (wave-inside _ (less _));
+  }
 
-  cosPi-is : cosPiOf x ≡ wave ((half + 2 ^ 62) % 2 ^ 64)
-  unfolding cosPiOf
-  cosPi-is = rw (half-turns-taken x h) (ap wave (on half))
-    where
-      on : (n : ℕ) → (n % 2 ^ 64 + 2 ^ 62) % 2 ^ 64 ≡ (n + 2 ^ 62) % 2 ^ 64
-      on n = omega arith
+  pub sinPi-refused : ¬ Number x → SinPi x 1 before before
+  sinPi-refused n = record { answers = declined sinPiOf x before n; near = λ h. absurd (n h); whole = λ h. absurd (n h); inside = λ h. absurd (n h) }
 
-  module _ (c d w : ℕ) (wpos : 0 < w) (turn : QuarterTurn c d w) where
-    abbrev Q : ℕ
-    Q = w * 2 ^ 149 * (quarterUnit * 2 ^ 62)
+  -- ---- cos (pi x)
+  pub cosPi-promised : (after : Float) → Number x → after ≡ cosPiOf x → CosPi x 0 before after
+  cosPi-promised after h e = record {
+    answers = given cosPiOf x before after h e (subst Number (sym (e ∙ cosPi-is x h)) (wave-number _ (less _)));
+    near = λ a c d w pos turn. subst (λ (r : Float). Cosine (2 * c * P x) (2 * c * N x) (w * 2 ^ 149) (P r) (N r) (2 ^ 149) (openError d w x) (openUnit w)) (sym e) (cosPi-near x h c d w pos turn);
+    whole = λ a k l w. e ∙ cosPi-whole x h k l w;
+    inside = λ a. subst (λ (r : Float). mag r ≤ 2 ^ 149) (sym (e ∙ cosPi-is x h)) (wave-inside _ (less _));
+  }
 
-    -- what was cut off of pi / 2, in units of 1 / Q
-    abbrev gap : ℕ
-    gap = d * quarterUnit * mag x * 2 ^ 63
+  pub cosPi-refused : ¬ Number x → CosPi x 1 before before
+  cosPi-refused n = record { answers = declined cosPiOf x before n; near = λ h. absurd (n h); whole = λ h. absurd (n h); inside = λ h. absurd (n h) }
 
-    Qpos : 0 < D * Q * 2 ^ 149
-    Qpos = mul-pos (mul-pos (lit< tt) (mul-pos (mul-pos wpos (pow-pos 149)) (mul-pos quarter-unit-pos (pow-pos 62)))) (pow-pos 149)
+  -- ---- sin x
+  pub sin-promised : (after : Float) → Accepts x → after ≡ sinOf x → Sin x 0 before after
+  sin-promised after a e = record {
+    answers = given sinOf x before after a e (subst Number (sym (e ∙ sin-is x a)) (wave-number _ (less _)));
+    near = λ h. subst (λ (r : Float). Sine (P x) (N x) (2 ^ 149) (P r) (N r) (2 ^ 149) waveError waveUnit) (sym e) (sin-near x a);
+    inside = λ h. subst (λ (r : Float). mag r ≤ 2 ^ 149) (sym (e ∙ sin-is x a)) (wave-inside _ (less _));
+  }
 
-    -- 7 units and half a step are 135 of 2 ^ -32, and 17 2 ^ -29 is 136
-    all-errors : ((7 * Q + D * gap) * 2 ^ 149 + 2 ^ 124 * (D * Q)) * openUnit w ≤ openError d w x * (D * Q * 2 ^ 149)
-    all-errors = through (w * 2 ^ 149) quarterUnit (2 ^ 62) (2 ^ 124) (mag x)
-      where
-        through : (X u a e M : ℕ) → ((7 * (X * (u * a)) + D * (d * u * M * (2 * a))) * (2 ^ 25 * e) + e * (D * (X * (u * a)))) * (waveUnit * X) ≤ (waveError * X + waveUnit * (2 * d * M)) * (D * (X * (u * a)) * (2 ^ 25 * e))
-        through X u a e M = omega arith
+  pub sin-refused : ¬ Accepts x → Sin x 1 before before
+  sin-refused n = record { answers = declined sinOf x before n; near = λ h. absurd (n h); inside = λ h. absurd (n h) }
 
-    -- either sign
-    side : (s : Bool) (m : ℕ) → (2 * c * cond s 0 m ≡ cond s 0 (2 * c * m)) × (2 * c * cond s m 0 ≡ cond s (2 * c * m) 0)
-    side true m = (mul-zero (2 * c), refl)
-    side false m = (refl, mul-zero (2 * c))
+  -- ---- cos x
+  pub cos-promised : (after : Float) → Accepts x → after ≡ cosOf x → Cos x 0 before after
+  cos-promised after a e = record {
+    answers = given cosOf x before after a e (subst Number (sym (e ∙ cos-is x a)) (wave-number _ (less _)));
+    near = λ h. subst (λ (r : Float). Cosine (P x) (N x) (2 ^ 149) (P r) (N r) (2 ^ 149) waveError waveUnit) (sym e) (cos-near x a);
+    inside = λ h. subst (λ (r : Float). mag r ≤ 2 ^ 149) (sym (e ∙ cos-is x a)) (wave-inside _ (less _));
+  }
 
-    pub sinPi-near : Sine (2 * c * P x) (2 * c * N x) (w * 2 ^ 149) (P (sinPiOf x)) (N (sinPiOf x)) (2 ^ 149) (openError d w x) (openUnit w)
-    sinPi-near =
-        let (e, f) = side (negative x) (mag x) in
-        rw (e, f)
-        (sine-wider Qpos all-errors
-        (sine-joined (2 * c * mag x) (w * 2 ^ 149) (negative x) (half % 2 ^ 64) (less half) (half-arrived (mag x) (mag-lt x h) c d w wpos turn .sine) (sinPiOf x) sinPi-is))
-
-    pub cosPi-near : Cosine (2 * c * P x) (2 * c * N x) (w * 2 ^ 149) (P (cosPiOf x)) (N (cosPiOf x)) (2 ^ 149) (openError d w x) (openUnit w)
-    cosPi-near =
-        let (e, f) = side (negative x) (mag x) in
-        rw (e, f)
-        (cosine-wider Qpos all-errors
-        (cosine-joined (2 * c * mag x) (w * 2 ^ 149) (negative x) ((half + 2 ^ 62) % 2 ^ 64) (less (half + 2 ^ 62)) (half-arrived (mag x) (mag-lt x h) c d w wpos turn .cosine) (cosPiOf x) cosPi-is))
-
--- ---- x itself
-
-module _ (x : Float) (a : Accepts x) where
-  abbrev t : ℕ
-  t = radians (sizeBits x)
-
-  t-few : t < 2 ^ 64
-  unfolding radians
-  t-few = less _
-
-  sin-is : sinOf x ≡ wave ((t + cond (negative x) 1 0 * 2 ^ 63) % 2 ^ 64)
-  unfolding sinOf
-  sin-is = rw (sign-bit x (a .number)) refl
-
-  cos-is : cosOf x ≡ wave ((t + 2 ^ 62) % 2 ^ 64)
-  unfolding cosOf
-  cos-is = refl
-
-  pub sin-near : Sine (P x) (N x) (2 ^ 149) (P (sinOf x)) (N (sinOf x)) (2 ^ 149) waveError waveUnit
-  sin-near = sine-wider (lit< tt) (lit≤ tt) (sine-joined (mag x) (2 ^ 149) (negative x) t t-few (radians-taken x a .sine) (sinOf x) sin-is)
-
-  pub cos-near : Cosine (P x) (N x) (2 ^ 149) (P (cosOf x)) (N (cosOf x)) (2 ^ 149) waveError waveUnit
-  cos-near = cosine-wider (lit< tt) (lit≤ tt) (cosine-joined (mag x) (2 ^ 149) (negative x) ((t + 2 ^ 62) % 2 ^ 64) (less (t + 2 ^ 62)) (radians-taken x a .cosine) (cosOf x) cos-is)
+  pub cos-refused : ¬ Accepts x → Cos x 1 before before
+  cos-refused n = record { answers = declined cosOf x before n; near = λ h. absurd (n h); inside = λ h. absurd (n h) }
