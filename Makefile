@@ -1,4 +1,4 @@
-# make         proves and builds build/libearmath.a, then compiles and runs the example
+# make         proves and builds build/libearmath.a and the program build/earmath, then compiles and runs the example
 # make test    the gate, .ci/run: all proofs, and the tests of the archive from C
 # make every   all 2^32 patterns through each function of one argument, ONLY=ear_exp2 for one of
 #              them, and all floats of three channels through the loudness map (some minutes)
@@ -19,13 +19,14 @@ CRATES = crates.txt $(shell find crates -type f)
 .PHONY: all test tests every bench times clean tools-for-make mpfr
 .DELETE_ON_ERROR:
 
-all: build/roots build/growth.svg
+all: build/roots build/growth.svg build/earmath
 	@echo "The library is proved and built: $(LIBRARY). The example examples/roots.c, linked with it, says:"
 	@echo
 	@build/roots
 	@echo
 	@echo "So results are the nearest floats, and what has no result is refused with nothing written."
 	@echo "A channel's loudness map is drawn in build/growth.svg; build/growth prints it, for any channel."
+	@echo "Any value can be asked for by bit patterns: build/earmath exp2 40490fdb says $$(build/earmath exp2 40490fdb)."
 
 test:
 	@.ci/run
@@ -58,6 +59,11 @@ $(LIBRARY): $(CRATES) | tools-for-make
 	rt staticlib earmath
 	@mkdir -p build
 	cp target/staticlib/libearmath.a $@
+
+build/earmath: $(CRATES) | tools-for-make
+	rt check ear
+	@mkdir -p build
+	cp target/bin/ear $@
 
 # The examples are plain C99, as the header is.
 build/roots build/growth: build/%: examples/%.c include/earmath.h $(LIBRARY)
