@@ -51,9 +51,9 @@ fn collect(line: &[u8], from: usize, floats: &mut [f32]) -> usize
     requires { ⌜ from ≤ length (now line) ⌝ }
 {
     let mut n = 0;
-    let mut a = words::start(line, from);
+    let mut a = words::find(line, from, false);
     while a < line.len() {
-        let e = words::stop(line, a + 1);
+        let e = words::find(line, a + 1, true);
         let word = &line[a..e];
         let b = words::bits(word);
         if words::NOT_A_PATTERN <= b {
@@ -66,7 +66,7 @@ fn collect(line: &[u8], from: usize, floats: &mut [f32]) -> usize
         }
         floats[n] = patterns::float(b as u32);
         n += 1;
-        a = words::start(line, e);
+        a = words::find(line, e, false);
     }
     n
 }
@@ -96,8 +96,8 @@ fn known(word: &[u8]) -> u32 {
 
 // The answer to a line that starts with a function's name; none to an empty one, or to one that starts with #.
 fn request(line: &[u8]) {
-    let a = words::start(line, 0);
-    let e = words::stop(line, a);
+    let a = words::find(line, 0, false);
+    let e = words::find(line, a, true);
     if a == line.len() || line[a] == b'#' {
         return;
     }
@@ -107,28 +107,11 @@ fn request(line: &[u8]) {
     }
 }
 
-// A line of the standard input: how many of its bytes fill the start of the buffer, whether there were more, and whether the input ended with it.
+// A line of the standard input: how many bytes of the buffer it fills, whether it filled all of it, and whether no more is to be read.
 struct Read {
     length: usize,
     cut: bool,
     last: bool,
-}
-
-// The rest of a line that is too long; whether the input ended with it.
-// A proved loop has to end, and nothing says that a line does: so the turns are counted down, from a number that no line uses up.
-fn skip_line() -> bool {
-    let mut turns = u64::MAX;
-    while turns > 0 {
-        let mut one = [0u8; 1];
-        if libc::read(STDIN_FILENO, &mut one) < 1 {
-            return true;
-        }
-        if one[0] == 10 {
-            return false;
-        }
-        turns -= 1;
-    }
-    true
 }
 
 fn read_line(line: &mut [u8]) -> Read
@@ -157,7 +140,7 @@ fn read_line(line: &mut [u8]) -> Read
     Read {
         length: n,
         cut: true,
-        last: skip_line(),
+        last: true,
     }
 }
 
@@ -167,10 +150,10 @@ fn answer_line(function: u32) -> bool {
     let got = read_line(&mut line);
     let n = got.length;
     if got.cut {
-        complain(b"", b"a line of 65536 bytes or more\n");
+        complain(b"", b"a line of 65536 bytes or more ends the work\n");
     } else if function == functions::UNKNOWN {
         request(&line[0..n]);
-    } else if words::start(&line[0..n], 0) < n {
+    } else if words::find(&line[0..n], 0, false) < n {
         arguments(function, &line[0..n], 0);
     }
     got.last
@@ -235,8 +218,8 @@ fn command_line(line: &mut [u8]) -> usize
 
 // A single word: help, or a function for the lines of the standard input.
 fn single(line: &[u8]) {
-    let a = words::start(line, 0);
-    let e = words::stop(line, a);
+    let a = words::find(line, 0, false);
+    let e = words::find(line, a, true);
     let word = &line[a..e];
     if check::same(word, b"help") || check::same(word, b"--help") {
         usage();

@@ -10,29 +10,14 @@ fn is_blank(b: u8) -> bool {
     b == b' ' || b == b'\t' || b == b'\r'
 }
 
-// Where the next word starts, from `at` on.
-pub fn start(line: &[u8], at: usize) -> usize
+// The first place from `at` on with a blank, or with none: where the word stops that `at` is in, or where the next one starts.
+pub fn find(line: &[u8], at: usize, blank: bool) -> usize
     requires { ⌜ at ≤ length (now line) ⌝ }
     ensures { λ r. ⌜ (at ≤ r) × (r ≤ length (now (line .entry))) ⌝ }
 {
     let mut i = at;
     while i < line.len() {
-        if !is_blank(line[i]) {
-            return i;
-        }
-        i += 1;
-    }
-    i
-}
-
-// Where the word stops that `at` is in, or just behind.
-pub fn stop(line: &[u8], at: usize) -> usize
-    requires { ⌜ at ≤ length (now line) ⌝ }
-    ensures { λ r. ⌜ (at ≤ r) × (r ≤ length (now (line .entry))) ⌝ }
-{
-    let mut i = at;
-    while i < line.len() {
-        if is_blank(line[i]) {
+        if is_blank(line[i]) == blank {
             return i;
         }
         i += 1;
