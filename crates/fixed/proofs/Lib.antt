@@ -1,3 +1,4 @@
 pub mod Take
 pub mod Nearest
 pub mod Horner
+pub mod Rounding

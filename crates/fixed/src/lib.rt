@@ -1,6 +1,8 @@
-// Taking a float apart into whole numbers.
+// Taking a float apart into whole numbers, and putting one together.
 
+ghost use mathlib.Core.Path.{_≡_};
 ghost use Rattle.fixed.specs.Parts.{Positive, Apart};
+ghost use Rattle.fixed.specs.Rounded.{Normal, nearestBits};
 
 pub struct Parts {
     pub m: u32,
@@ -25,4 +27,16 @@ pub fn apart(x: f32) -> Parts
             e: b / 8388608 + 23,
         }
     }
+}
+
+// The bit pattern of the float nearest to n * 2 ^ (e - 40) units: the first 25 digits of n, and one of them rounded off. A carry runs into the exponent.
+pub fn nearest_bits(n: u64, e: u32) -> u32
+    requires { ⌜ Normal n e ⌝ }
+    ensures { λ r. ⌜ r ≡ nearestBits n e ⌝ }
+{
+    if n == 0 {
+        return 0;
+    }
+    let z = u64::leading_zeros(n);
+    (e - z) * 8388608 + (((n << z) / 549755813888 + 1) / 2) as u32
 }

@@ -1,9 +1,9 @@
 -- The logarithm: method, reduction and rounding joined to the promise. Assumes nothing.
 use mathlib.Core.Path.{_≡_, refl, sym, ap, _∙_, subst}
 use mathlib.Core.Logic.{_⊎_, inl, inr}
-use mathlib.Core.Bool.{Bool, true, false, cond}
+use mathlib.Core.Bool.{Bool, true, cond}
 use Prim.Native.Nat.{ℕ, _+_, _-_, _*_, _^_, _<_}
-use native.Mathlib.Nat.{le-of-eq, lt-of-lt-of-le, add-le-add, eq-zero-or-pos}
+use native.Mathlib.Nat.{le-of-eq, lt-of-lt-of-le, add-le-add, zero-add}
 use native.Mathlib.Omega.{arith}
 use lib.Dec.{lit<}
 use lib.Pow.{pow-pos}
@@ -12,13 +12,14 @@ use lib.Ieee.{Float, binary32, ofBits}
 use Rattle.units.specs.Units.{mag, P, N, Number, Le}
 use Rattle.units.proofs.Naturals.{le-or-lt}
 use Rattle.units.proofs.Signs.{plus-of, minus-of}
-use Rattle.units.proofs.Bits.{Is, put-positive}
 use Rattle.units.proofs.Answers.{given, declined}
+use Rattle.fixed.specs.Rounded.{nearestBits}
+use Rattle.fixed.proofs.Rounding.{is-units, is-positive, zero-bits}
 use Rattle.logs.specs.Fixed.{Accepts, FixedLog2, fixedOf}
-use Rattle.logs.specs.Log2.{Near, Log2, atOne, distanceOf, signOf, nearestBits, roundedBits, log2Of}
+use Rattle.logs.specs.Log2.{Near, Log2, atOne, distanceOf, signOf, roundedBits, log2Of}
 use Rattle.logs.proofs.Reduction.{reading, whole-fixed}
 use Rattle.logs.proofs.Order.{fixed-least, fixed-most, fixed-order}
-use Rattle.logs.proofs.Rounding.{unitsOf, zero-units, units-order, near-most, near-least, whole-units, is-units, is-zero}
+use Rattle.logs.proofs.Rounding.{normal, unitsOf, zero-units, units-order, near-most, near-least, whole-units}
 use Rattle.logs.proofs.Relative.{Within, fixed-below, fixed-above, within, near-below, near-above}
 
 -- ---- in fixed point
@@ -29,13 +30,6 @@ fixed-promised x w a e =
     (record { value = refl; least = fixed-least x a; most = fixed-most x a; whole = whole-fixed x a; order = λ x′ a′ l. fixed-order x x′ a a′ l })
 
 -- ---- the float of a logarithm in fixed point
--- of n steps at or above log2 1
-is-steps : (n : ℕ) → n < 2 ^ 63 → Is (ofBits binary32 (0 + nearestBits n)) false (unitsOf n)
-is-steps n few = elim (eq-zero-or-pos n) [
-  | inl e ↦ rw (is-zero n few e, zero-units n e) (put-positive 0 0 (inl refl) (omega arith) (omega arith))
-  | inr h ↦ is-units n few false h
-]
-
 -- it has the units of its distance, on one side or on the other
 record Steps (w : ℕ) (r : Float) : Type 0 where
   number : Number r
@@ -47,13 +41,13 @@ unfolding roundedBits signOf
 steps w few = elim (le-or-lt atOne w) [
   | inl h ↦
       let d : distanceOf w ≡ w - atOne = omega arith in
-      let i = is-steps (w - atOne) (omega arith) in
-      rw (le-ltb w atOne h, d)
+      let i = is-positive (w - atOne) 135 (omega arith) (normal (w - atOne)) in
+      rw (le-ltb w atOne h, d, zero-add)
       (record { number = i .number; plus = plus-of _ (i .sign) ∙ i .units; minus = minus-of _ (i .sign) ∙ sym (zero-units (atOne - w) (omega arith)) })
   | inr h ↦
       let d : distanceOf w ≡ atOne - w = omega arith in
-      let r = ofBits binary32 (2147483648 + nearestBits (atOne - w)) in
-      let i = is-units (atOne - w) (omega arith) true (omega arith) in
+      let r = ofBits binary32 (2147483648 + nearestBits (atOne - w) 135) in
+      let i = is-units (atOne - w) 135 (omega arith) (normal (atOne - w)) true (omega arith) in
       rw (lt-ltb w atOne h, d)
       (record {
         number = i .number;
@@ -110,7 +104,7 @@ module _ (x : Float) (a : Accepts x) where
   log2-one e =
       let f = whole-fixed x a 149 e in
       let h : w ≡ atOne = omega arith in
-      rw (le-ltb w atOne (le-of-eq (sym h)), is-zero (distanceOf w) (omega arith) (omega arith)) refl
+      rw (le-ltb w atOne (le-of-eq (sym h)), zero-bits (distanceOf w) 135 (omega arith)) refl
 
 -- ---- the whole promise, of an accepted x and of any other
 log2-order : (x : Float) → Accepts x → (x′ : Float) → Accepts x′ → Le x′ x → Le (log2Of x′) (log2Of x)

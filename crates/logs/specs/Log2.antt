@@ -1,13 +1,13 @@
 -- The promise of log2. Definitions only.
 use mathlib.Core.Path.{_≡_}
-use Prim.Native.Nat.{ℕ, _+_, _-_, _*_, _/_, _^_, _≤_, _<_}
+use Prim.Native.Nat.{ℕ, _+_, _-_, _*_, _^_, _≤_, _<_}
 use mathlib.Core.Bool.{cond}
-use lib.Count.{leadingZeros}
-use lib.Dec.{ltb, eqb}
+use lib.Dec.{ltb}
 use lib.Ieee.{Float, binary32, ofBits}
 use Rattle.exact.specs.Power.{AtMost, AtLeast}
 use Rattle.units.specs.Units.{mag, P, N, Le}
 use Rattle.units.specs.Answers.{Answers}
+use Rattle.fixed.specs.Rounded.{nearestBits}
 use Rattle.logs.specs.Fixed.{Accepts, fixedOf}
 
 -- |log2 x| ≤ p / q, for x of X units of 2 ^ -149
@@ -21,14 +21,6 @@ pub record Near (a b : ℕ) (x r : Float) : Type 0 where
   pub least : (p q : ℕ) → 0 < q → q ≤ p → LogUpTo p q (mag x) → AtLeast (mag x) (2 ^ 149) (P r * (b * q)) (N r * (b * q) + a * p * 2 ^ 149) (2 ^ 149 * (b * q))
   pub most : (p q : ℕ) → 0 < q → q ≤ p → LogUpTo p q (mag x) → AtMost (mag x) (2 ^ 149) (P r * (b * q) + a * p * 2 ^ 149) (N r * (b * q)) (2 ^ 149 * (b * q))
 
--- the significand of the float nearest to n, 24 digits, for n of 64 - z digits
-unfoldable pub digitsOf : ℕ → ℕ → ℕ
-digitsOf n z = (n * 2 ^ z / 549755813888 + 1) / 2
-
--- the bit pattern of the float nearest to n steps of 2 ^ -54
-unfoldable pub nearestBits : ℕ → ℕ
-nearestBits n = cond (eqb n 0) 0 ((135 - leadingZeros 64 n) * 8388608 + digitsOf n (leadingZeros 64 n))
-
 -- log2 1 in fixed point
 abbrev pub atOne : ℕ
 atOne = 2287828610704211968
@@ -41,9 +33,9 @@ signOf w = cond (ltb w atOne) 2147483648 0
 abbrev pub distanceOf : ℕ → ℕ
 distanceOf w = w - atOne + (atOne - w)
 
--- the bit pattern of the float nearest to it
+-- the bit pattern of the float nearest to it: a step of 2 ^ -54 is 2 ^ (135 - 40) units
 unfoldable pub roundedBits : ℕ → ℕ
-roundedBits w = signOf w + nearestBits (distanceOf w)
+roundedBits w = signOf w + nearestBits (distanceOf w) 135
 
 -- what the program computes
 unfoldable pub log2Of : Float → Float

@@ -5,7 +5,7 @@ mod rows;
 ghost use mathlib.Core.Path.{_≡_};
 ghost use Prim.Native.Nat.{_+_, _*_, _/_, _^_, _<_, _≤_};
 ghost use Rattle.logs.specs.Fixed.{Accepts, FixedLog2, slope};
-ghost use Rattle.logs.specs.Log2.{Log2, distanceOf, nearestBits, roundedBits, signOf};
+ghost use Rattle.logs.specs.Log2.{Log2, distanceOf, roundedBits, signOf};
 
 // log2 1 in fixed point: 127 in steps of 2 ^ -54.
 const AT_ONE: u64 = 0x1fc0_0000_0000_0000;
@@ -39,18 +39,6 @@ pub fn fixed_log2(x: f32) -> u64
     k * 18014398509481984 + b as u64 * p - k * 8388608 * p
 }
 
-// The bit pattern of the float nearest to n steps of 2 ^ -54: the first 25 digits, and one of them rounded off. A carry runs into the exponent.
-fn nearest(n: u64) -> u32
-    requires { ⌜ n < 2 ^ 63 ⌝ }
-    ensures { λ r. ⌜ r ≡ nearestBits n ⌝ }
-{
-    if n == 0 {
-        return 0;
-    }
-    let z = u64::leading_zeros(n);
-    (135 - z) * 8388608 + (((n << z) / 549755813888 + 1) / 2) as u32
-}
-
 // How far a logarithm in fixed point is from log2 1.
 fn distance(w: u64) -> u64
     ensures { λ r. ⌜ r ≡ distanceOf w ⌝ }
@@ -65,12 +53,12 @@ fn sign(w: u64) -> u32
     if w < AT_ONE { 0x8000_0000 } else { 0 }
 }
 
-// The bit pattern of the float nearest to it.
+// The bit pattern of the float nearest to it: a step of 2 ^ -54 is 2 ^ 95 units.
 fn rounded(w: u64) -> u32
     requires { ⌜ w < 2 ^ 63 ⌝ }
     ensures { λ r. ⌜ r ≡ roundedBits w ⌝ }
 {
-    sign(w) + nearest(distance(w))
+    sign(w) + fixed::nearest_bits(distance(w), 135)
 }
 
 // log2 x, rounded once; code 1 and nothing written where x is a NaN, below 2 ^ -126 or an infinity.

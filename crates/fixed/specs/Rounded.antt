@@ -1,0 +1,18 @@
+-- The float nearest to a whole number times a power of two. Definitions only.
+use Prim.Native.Nat.{ℕ, _+_, _-_, _*_, _/_, _^_, _≤_, _<_}
+use mathlib.Core.Bool.{cond}
+use lib.Count.{leadingZeros}
+use lib.Dec.{eqb}
+
+-- n * 2 ^ (e - 40) units, for n of at most 64 digits, are zero or a normal float's: from 2 ^ 23 units on, and below the infinity
+pub record Normal (n e : ℕ) : Type 0 where
+  pub least : 0 < n → 2 ^ 63 ≤ n * 2 ^ e
+  pub most : e ≤ 252
+
+-- the significand of the float nearest to n, 24 digits, for n of 64 - z digits
+unfoldable pub digitsOf : ℕ → ℕ → ℕ
+digitsOf n z = (n * 2 ^ z / 549755813888 + 1) / 2
+
+-- the bit pattern of the float nearest to n * 2 ^ (e - 40) units
+unfoldable pub nearestBits : ℕ → ℕ → ℕ
+nearestBits n e = cond (eqb n 0) 0 ((e - leadingZeros 64 n) * 8388608 + digitsOf n (leadingZeros 64 n))
