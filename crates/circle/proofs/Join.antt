@@ -1,20 +1,19 @@
 -- The last rounding, and the sign: from what is computed at a phase to the float, which is within 2 ^ -25 of it. Assumes nothing.
-use mathlib.Core.Path.{_≡_, refl, sym, ap, _∙_, subst}
+use mathlib.Core.Path.{_≡_, refl, sym, ap, _∙_}
 use mathlib.Core.Logic.{_⊎_, inl, inr}
 use mathlib.Core.Bool.{Bool, true, false, cond}
 use Prim.Native.Nat.{ℕ, _+_, _*_, _%_, _^_, _≤_, _<_}
-use native.Mathlib.Nat.{le-trans, le-of-eq, add-zero, zero-mul, mod-eq-of-lt}
+use native.Mathlib.Nat.{add-zero, zero-add}
 use native.Mathlib.Omega.{arith}
 use lib.Dec.{lit<, lit≤}
 use lib.Ieee.{Float}
 use borrow.Author.Tests.{lt-ltb, le-ltb}
 use Rattle.units.specs.Units.{P, N}
 use Rattle.units.proofs.Naturals.{le-or-lt}
-use Rattle.exact.specs.Series.{partial, over, fourth, LimitNear}
+use Rattle.exact.specs.Series.{LimitNear}
 use Rattle.exact.specs.Circle.{Sine, Cosine}
 use Rattle.exact.proofs.Approximation.{near-finer, near-instead}
-use Rattle.exact.proofs.Limits.{near-minus}
-use Rattle.exact.proofs.Angles.{sine-plus, sine-minus, cosine-plus, cosine-minus}
+use Rattle.exact.proofs.Limits.{near-wider, Both, cosine-of, sine-plus, sine-minus}
 use Rattle.fixed.proofs.Rounding.{unitsOf, zero-units}
 use Rattle.circle.specs.Wave.{sizeOf, waveBits, wave}
 use Rattle.circle.proofs.Method.{D}
@@ -59,26 +58,37 @@ module _ (t : ℕ) (few : t < 2 ^ 64) where
       go (inr (a, b)) =
           under (P r) (N r) (plusOf t) (minusOf t) (unitsOf n 157) (2 ^ 124) (s .plus ∙ units a ∙ zero-units 0 157 refl) (s .minus ∙ units b) a b (units-most n (size-top t)) (units-least n (size-top t))
 
-  -- so a limit that is near what is computed is as near to the float, but for that half step
-  near-float : {F G O : ℕ → ℕ} {a b : ℕ} → LimitNear F G O (plusOf t) (minusOf t) D a b → LimitNear F G O (P r) (N r) (2 ^ 149) (a * 2 ^ 149 + 2 ^ 124 * b) (b * 2 ^ 149)
-  near-float h = near-instead (P r) (N r) (2 ^ 124) (lit< tt) (rounded .0) (rounded .1) (near-finer H h)
+  -- so a limit that is within 7 units of what is computed is within 135 of the float
+  near-float : {F G O : ℕ → ℕ} → LimitNear F G O (plusOf t) (minusOf t) D 7 D → LimitNear F G O (P r) (N r) (2 ^ 149) 135 D
+  near-float h = near-wider (lit< tt) (lit≤ tt) (near-instead (P r) (N r) (2 ^ 124) (lit< tt) (rounded .0) (rounded .1) (near-finer H h))
+
+-- of cosine and sine
+pub both-float : {p q : ℕ} (on here : ℕ) → on < 2 ^ 64 → here < 2 ^ 64 → Both p q (plusOf on) (minusOf on) (plusOf here) (minusOf here) D 7 D →
+    Both p q (P (wave on)) (N (wave on)) (P (wave here)) (N (wave here)) (2 ^ 149) 135 D
+both-float on here few few′ h = record { cosine = near-float on few (h .cosine); sine = near-float here few′ (h .sine) }
+
+-- half a turn on, the float is the opposite one
+module _ (t : ℕ) (few : t < 2 ^ 64) where
+  abbrev across : ℕ
+  across = (t + 2 ^ 63) % 2 ^ 64
+
+  turned-float : (P (wave across) ≡ N (wave t)) × (N (wave across) ≡ P (wave t))
+  turned-float =
+      let (e, f) = opposite t few in
+      let a = wave-signed across (omega arith) in
+      let b = wave-signed t few in
+      (a .plus ∙ ap (λ (n : ℕ). unitsOf n 157) e ∙ sym (b .minus), a .minus ∙ ap (λ (n : ℕ). unitsOf n 157) f ∙ sym (b .plus))
 
 -- ---- of an angle of either sign, whose size is p / q
 
--- the sine: what is computed at its phase, or half a turn on
-pub sine-joined : {a b : ℕ} (p q : ℕ) (s : Bool) (t : ℕ) → t < 2 ^ 64 → LimitNear (partial (fourth 1) p q) (partial (fourth 3) p q) (over q) (plusOf t) (minusOf t) D a b → (r : Float) →
-    r ≡ wave ((t + cond s 1 0 * 2 ^ 63) % 2 ^ 64) → Sine (cond s 0 p) (cond s p 0) q (P r) (N r) (2 ^ 149) (a * 2 ^ 149 + 2 ^ 124 * b) (b * 2 ^ 149)
-sine-joined p q true t few h r e =
-    let (e₁, e₂) = opposite t few in
-    let across = (t + 2 ^ 63) % 2 ^ 64 in
-    let less : across < 2 ^ 64 = omega arith in
-    rw e (sine-minus (near-minus (near-float across less (rw (e₁, e₂) (near-minus h)))))
-sine-joined p q false t few h r e =
-    let same : (t + 0) % 2 ^ 64 ≡ t = omega arith in
-    rw (e, same) (sine-plus (near-float t few h))
+-- the sine: the float at its phase, or half a turn on
+pub sine-joined : {p q C C′ U a b : ℕ} (s : Bool) (t : ℕ) → t < 2 ^ 64 → Both p q C C′ (P (wave t)) (N (wave t)) U a b → (r : Float) →
+    r ≡ wave ((t + cond s 1 0 * 2 ^ 63) % 2 ^ 64) → Sine (cond s 0 p) (cond s p 0) q (P r) (N r) U a b
+sine-joined true t few h r e = let (i, j) = turned-float t few in rw (e, i, j) (sine-minus h)
+sine-joined false t few h r e = let same : (t + 0) % 2 ^ 64 ≡ t = omega arith in rw (e, same) (sine-plus h)
 
 -- the cosine, whatever the sign
-pub cosine-joined : {a b : ℕ} (p q : ℕ) (s : Bool) (t : ℕ) → t < 2 ^ 64 → LimitNear (partial (fourth 0) p q) (partial (fourth 2) p q) (over q) (plusOf t) (minusOf t) D a b → (r : Float) →
-    r ≡ wave t → Cosine (cond s 0 p) (cond s p 0) q (P r) (N r) (2 ^ 149) (a * 2 ^ 149 + 2 ^ 124 * b) (b * 2 ^ 149)
-cosine-joined p q true t few h r e = rw e (cosine-minus (near-float t few h))
-cosine-joined p q false t few h r e = rw e (cosine-plus (near-float t few h))
+pub cosine-joined : {p q S S′ U a b : ℕ} (s : Bool) (t : ℕ) → Both p q (P (wave t)) (N (wave t)) S S′ U a b → (r : Float) → r ≡ wave t →
+    Cosine (cond s 0 p) (cond s p 0) q (P r) (N r) U a b
+cosine-joined {p} true t h r e = rw e (cosine-of (rw (← zero-add p) at h))
+cosine-joined {p} false t h r e = rw e (cosine-of (rw (← add-zero p) at h))

@@ -1,8 +1,8 @@
 -- The polynomial against the sine of a quarter turn, and read from the quarter's end against the cosine: within a quarter of a unit of 2 ^ -32. Assumes nothing.
-use mathlib.Core.Path.{_≡_, refl, ap₂, sym, _∙_}
+use mathlib.Core.Path.{_≡_, refl}
 use mathlib.Core.Bool.{Bool, true, false}
 use mathlib.Core.List.{List, [], _∷_}
-use Prim.Native.Nat.{ℕ, suc, _+_, _-_, _*_, _^_, _≤_, _<_}
+use Prim.Native.Nat.{ℕ, _+_, _*_, _^_, _≤_, _<_}
 use native.Mathlib.Omega.{arith}
 use native.Mathlib.Nat.{one-mul, mul-le-mul-left}
 use lib.Dec.{T, lit<, lit≤}
@@ -12,7 +12,7 @@ use Rattle.exact.specs.Series.{partial, over, fourth, LimitNear}
 use Rattle.exact.proofs.Polynomial.{odd, spread}
 use Rattle.exact.proofs.Forms.{add, value-add, length-add}
 use Rattle.exact.proofs.Pieces.{each, below, below-sound, knots, end}
-use Rattle.exact.proofs.Mirror.{mirror, value-mirror, length-mirror}
+use Rattle.exact.proofs.Mirror.{mirror, value-mirror}
 use Rattle.exact.proofs.Series.{fourth-most}
 use Rattle.exact.proofs.Approximation.{not-above, near-polynomial}
 use Rattle.fixed.proofs.Alternating.{signed}

@@ -1,28 +1,28 @@
 -- How near the four functions come, put together from the rooms: Method and Rounding (the kernel), Turn (every phase), Reduction and Taken (the argument), Join (the last rounding).
 -- Assumes nothing.
-use mathlib.Core.Path.{_≡_, refl, sym, ap, ap₂, subst, _∙_}
+use mathlib.Core.Path.{_≡_, refl, ap}
 use mathlib.Core.Bool.{Bool, true, false, cond}
 use Prim.Native.Nat.{ℕ, _+_, _*_, _/_, _%_, _^_, _≤_, _<_}
-use native.Mathlib.Nat.{le-trans, le-of-eq, mul-pos, mul-zero, mod-lt, mul-le-mul-right}
+use native.Mathlib.Nat.{le-trans, le-of-eq, le-of-lt, mul-zero, mod-lt, mul-le-mul-right}
 use native.Mathlib.Omega.{arith}
 use lib.Dec.{lit<, lit≤}
 use lib.Pow.{pow-pos}
-use lib.Ieee.{Float, binary32, toBits}
+use lib.Ieee.{Float}
 use Rattle.units.specs.Units.{mag, negative, P, N, Number}
 use Rattle.units.proofs.Size.{mag-lt}
-use Rattle.units.proofs.Answers.{given, declined}
 use Rattle.exact.specs.Circle.{Sine, Cosine, QuarterTurn}
-use Rattle.exact.proofs.Quarter.{quarterUnit, quarter-unit-pos}
-use Rattle.exact.proofs.Angles.{sine-wider, cosine-wider}
+use Rattle.exact.proofs.Limits.{Both, both-wider}
+use Rattle.exact.proofs.Quarter.{quarter, quarterUnit}
+use Rattle.exact.proofs.Zero.{enclosed}
 use Rattle.fixed.proofs.Either.{sign-bit}
-use Rattle.circle.specs.Phase.{halfTurns, radians}
+use Rattle.circle.specs.Phase.{radians}
 use Rattle.circle.specs.Wave.{sizeOf, wave, sinPiOf, cosPiOf, sinOf, cosOf}
-use Rattle.circle.specs.Promise.{waveError, waveUnit, Accepts, openError, openUnit, atQuarter, SinPi, CosPi, Sin, Cos}
+use Rattle.circle.specs.Promise.{waveError, waveUnit, Accepts, openError, openUnit}
 use Rattle.circle.proofs.Method.{D}
-use Rattle.circle.proofs.Pattern.{Signed, wave-signed, size-top, units-top}
+use Rattle.circle.proofs.Pattern.{wave-signed, size-top, units-top}
 use Rattle.circle.proofs.Reduction.{half-arrived}
 use Rattle.circle.proofs.Taken.{sizeBits, half-turns-taken, radians-taken}
-use Rattle.circle.proofs.Join.{sine-joined, cosine-joined}
+use Rattle.circle.proofs.Join.{both-float, sine-joined, cosine-joined}
 
 -- ---- every result
 
@@ -54,42 +54,32 @@ module _ (x : Float) (h : Number x) where
       on : (n : ℕ) → (n % 2 ^ 64 + 2 ^ 62) % 2 ^ 64 ≡ (n + 2 ^ 62) % 2 ^ 64
       on n = omega arith
 
+  -- by our own pi / 2, with 135 2 ^ -32
+  half-near : Both (quarter * (2 * mag x)) (quarterUnit * 2 ^ 149) (P (wave ((half + 2 ^ 62) % 2 ^ 64))) (N (wave ((half + 2 ^ 62) % 2 ^ 64))) (P (wave (half % 2 ^ 64))) (N (wave (half % 2 ^ 64))) (2 ^ 149) 135 D
+  half-near = both-float ((half + 2 ^ 62) % 2 ^ 64) (half % 2 ^ 64) (less (half + 2 ^ 62)) (less half) (half-arrived (mag x) (mag-lt x h))
+
   module _ (c d w : ℕ) (wpos : 0 < w) (turn : QuarterTurn c d w) where
-    abbrev Q : ℕ
-    Q = w * 2 ^ 149 * (quarterUnit * 2 ^ 62)
-
-    -- what was cut off of pi / 2, in units of 1 / Q
-    abbrev gap : ℕ
-    gap = d * quarterUnit * mag x * 2 ^ 63
-
-    Qpos : 0 < D * Q * 2 ^ 149
-    Qpos = mul-pos (mul-pos (lit< tt) (mul-pos (mul-pos wpos (pow-pos 149)) (mul-pos quarter-unit-pos (pow-pos 62)))) (pow-pos 149)
-
-    -- 7 units and half a step are 135 of 2 ^ -32, and 17 2 ^ -29 is 136
-    all-errors : ((7 * Q + D * gap) * 2 ^ 149 + 2 ^ 124 * (D * Q)) * openUnit w ≤ openError d w x * (D * Q * 2 ^ 149)
-    all-errors = through (w * 2 ^ 149) quarterUnit (2 ^ 62) (2 ^ 124) (mag x)
+    -- by any other; 17 2 ^ -29 is 136 2 ^ -32, so that there is room for what is between them
+    any-near : Both (c * (2 * mag x)) (w * 2 ^ 149) (P (wave ((half + 2 ^ 62) % 2 ^ 64))) (N (wave ((half + 2 ^ 62) % 2 ^ 64))) (P (wave (half % 2 ^ 64))) (N (wave (half % 2 ^ 64))) (2 ^ 149)
+        (openError d w x) (openUnit w)
+    any-near = enclosed (2 * mag x) (2 ^ 149) (2 ^ 40) waveError waveUnit wpos (pow-pos 149) (lit< tt) (lit< tt) turn room half-near
       where
-        through : (X u a e M : ℕ) → ((7 * (X * (u * a)) + D * (d * u * M * (2 * a))) * (2 ^ 25 * e) + e * (D * (X * (u * a)))) * (waveUnit * X) ≤ (waveError * X + waveUnit * (2 * d * M)) * (D * (X * (u * a)) * (2 ^ 25 * e))
-        through X u a e M = omega arith
+        room : 135 * waveUnit * (quarterUnit * 2 ^ 149 * 2 ^ 40) + D * waveUnit * (2 * mag x * 2 ^ 40 + quarterUnit * 2 ^ 149) ≤ waveError * D * (quarterUnit * 2 ^ 149 * 2 ^ 40)
+        room = through (quarterUnit * 2 ^ 149) (mag x) (le-trans (mul-le-mul-right (2 ^ 34) (le-of-lt (mag-lt x h))) (unfold quarterUnit in lit≤ tt))
+          where
+            through : (Q M : ℕ) → M * 2 ^ 34 ≤ Q → 135 * waveUnit * (Q * 2 ^ 40) + D * waveUnit * (2 * M * 2 ^ 40 + Q) ≤ waveError * D * (Q * 2 ^ 40)
+            through Q M l = omega arith
 
     -- either sign
-    side : (s : Bool) (m : ℕ) → (2 * c * cond s 0 m ≡ cond s 0 (2 * c * m)) × (2 * c * cond s m 0 ≡ cond s (2 * c * m) 0)
-    side true m = (mul-zero (2 * c), refl)
-    side false m = (refl, mul-zero (2 * c))
+    side : (s : Bool) (m : ℕ) → (c * (2 * cond s 0 m) ≡ cond s 0 (c * (2 * m))) × (c * (2 * cond s m 0) ≡ cond s (c * (2 * m)) 0)
+    side true m = (mul-zero c, refl)
+    side false m = (refl, mul-zero c)
 
-    pub sinPi-near : Sine (2 * c * P x) (2 * c * N x) (w * 2 ^ 149) (P (sinPiOf x)) (N (sinPiOf x)) (2 ^ 149) (openError d w x) (openUnit w)
-    sinPi-near =
-        let (e, f) = side (negative x) (mag x) in
-        rw (e, f)
-        (sine-wider Qpos all-errors
-        (sine-joined (2 * c * mag x) (w * 2 ^ 149) (negative x) (half % 2 ^ 64) (less half) (half-arrived (mag x) (mag-lt x h) c d w wpos turn .sine) (sinPiOf x) sinPi-is))
+    pub sinPi-near : Sine (c * (2 * P x)) (c * (2 * N x)) (w * 2 ^ 149) (P (sinPiOf x)) (N (sinPiOf x)) (2 ^ 149) (openError d w x) (openUnit w)
+    sinPi-near = let (e, f) = side (negative x) (mag x) in rw (e, f) (sine-joined (negative x) (half % 2 ^ 64) (less half) any-near (sinPiOf x) sinPi-is)
 
-    pub cosPi-near : Cosine (2 * c * P x) (2 * c * N x) (w * 2 ^ 149) (P (cosPiOf x)) (N (cosPiOf x)) (2 ^ 149) (openError d w x) (openUnit w)
-    cosPi-near =
-        let (e, f) = side (negative x) (mag x) in
-        rw (e, f)
-        (cosine-wider Qpos all-errors
-        (cosine-joined (2 * c * mag x) (w * 2 ^ 149) (negative x) ((half + 2 ^ 62) % 2 ^ 64) (less (half + 2 ^ 62)) (half-arrived (mag x) (mag-lt x h) c d w wpos turn .cosine) (cosPiOf x) cosPi-is))
+    pub cosPi-near : Cosine (c * (2 * P x)) (c * (2 * N x)) (w * 2 ^ 149) (P (cosPiOf x)) (N (cosPiOf x)) (2 ^ 149) (openError d w x) (openUnit w)
+    cosPi-near = let (e, f) = side (negative x) (mag x) in rw (e, f) (cosine-joined (negative x) ((half + 2 ^ 62) % 2 ^ 64) any-near (cosPiOf x) cosPi-is)
 
 -- ---- x itself
 
@@ -109,8 +99,11 @@ module _ (x : Float) (a : Accepts x) where
   unfolding cosOf
   cos-is = refl
 
+  both-near : Both (mag x) (2 ^ 149) (P (wave ((t + 2 ^ 62) % 2 ^ 64))) (N (wave ((t + 2 ^ 62) % 2 ^ 64))) (P (wave t)) (N (wave t)) (2 ^ 149) waveError waveUnit
+  both-near = both-wider (lit< tt) (lit≤ tt) (both-float ((t + 2 ^ 62) % 2 ^ 64) t (less (t + 2 ^ 62)) t-few (radians-taken x a))
+
   pub sin-near : Sine (P x) (N x) (2 ^ 149) (P (sinOf x)) (N (sinOf x)) (2 ^ 149) waveError waveUnit
-  sin-near = sine-wider (lit< tt) (lit≤ tt) (sine-joined (mag x) (2 ^ 149) (negative x) t t-few (radians-taken x a .sine) (sinOf x) sin-is)
+  sin-near = sine-joined (negative x) t t-few both-near (sinOf x) sin-is
 
   pub cos-near : Cosine (P x) (N x) (2 ^ 149) (P (cosOf x)) (N (cosOf x)) (2 ^ 149) waveError waveUnit
-  cos-near = cosine-wider (lit< tt) (lit≤ tt) (cosine-joined (mag x) (2 ^ 149) (negative x) ((t + 2 ^ 62) % 2 ^ 64) (less (t + 2 ^ 62)) (radians-taken x a .cosine) (cosOf x) cos-is)
+  cos-near = cosine-joined (negative x) ((t + 2 ^ 62) % 2 ^ 64) both-near (cosOf x) cos-is

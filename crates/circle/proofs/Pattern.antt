@@ -1,9 +1,9 @@
 -- The float put together from a sine in units of 2 ^ -32: its pattern is no NaN's, its size is at most 1, and it is within half a step of what was computed. Assumes nothing.
-use mathlib.Core.Path.{_≡_, refl, sym, ap, _∙_, subst}
+use mathlib.Core.Path.{_≡_, refl, sym, _∙_}
 use mathlib.Core.Logic.{_⊎_, inl, inr}
 use mathlib.Core.Bool.{Bool, true, false, not, cond}
 use Prim.Native.Nat.{ℕ, _+_, _-_, _*_, _/_, _%_, _^_, _≤_, _<_}
-use native.Mathlib.Nat.{le-trans, le-of-eq, lt-of-lt-of-le, eq-zero-or-pos, mul-le-mul-right, le-of-mul-le-mul-right, add-le-add, le-refl}
+use native.Mathlib.Nat.{le-trans, le-of-eq, eq-zero-or-pos, mul-le-mul-right, le-of-mul-le-mul-right, add-le-add, le-refl}
 use native.Mathlib.Omega.{arith}
 use lib.Count.{leadingZeros}
 use lib.Dec.{T, eqb, ltb, lit<, lit≤}
@@ -12,12 +12,11 @@ use lib.Ieee.{Float, binary32, ofBits, nanBits}
 use Rattle.units.specs.Units.{mag, negative, P, N, Number}
 use borrow.Author.Tests.{eq-eqb, ne-eqb, lt-ltb, le-ltb}
 use Rattle.units.proofs.Naturals.{le-or-lt}
-use Rattle.units.proofs.Bits.{Is, signBit, no-nan, no-nan-positive}
+use Rattle.units.proofs.Bits.{signBit, no-nan, no-nan-positive}
 use Rattle.units.proofs.Ranges.{zero-is, zero-units}
 use Rattle.fixed.specs.Rounded.{Normal, digitsOf, nearestBits}
 use Rattle.fixed.proofs.Rounding as fixed
 use Rattle.fixed.proofs.Rounding.{unitsOf, bits-fit, is-units, half-most, half-least, units-order}
-use Rattle.circle.specs.Kernel.{quarterSine}
 use Rattle.circle.specs.Wave.{placeOf, sizeOf, waveBits, wave}
 use Rattle.circle.proofs.Method.{D}
 use Rattle.circle.proofs.Rounding.{quarter-top}

@@ -2,7 +2,7 @@
 use mathlib.Core.Path.{_≡_, sym, subst, _∙_}
 use mathlib.Core.Logic.{inr}
 use mathlib.Core.Bool.{true, false}
-use Prim.Native.Nat.{ℕ, _+_, _*_, _^_, _≤_, _<_}
+use Prim.Native.Nat.{_*_, _^_, _≤_}
 use native.Mathlib.Omega.{arith}
 use lib.Dec.{T}
 use lib.Ieee.{Float, binary32, fits, le, neg, ofBits}
@@ -12,7 +12,7 @@ use Rattle.units.proofs.Bits.{Is, put-positive}
 use Rattle.units.proofs.Between.{within-size, below-bound, above-bound}
 use Rattle.exact.specs.Circle.{Sine, Cosine}
 use Rattle.circle.specs.Wave.{sinPiOf, cosPiOf, sinOf, cosOf}
-use Rattle.circle.specs.Promise.{waveError, waveUnit, openError, openUnit, atQuarter, Accepts, SinPi, CosPi, Sin, Cos}
+use Rattle.circle.specs.Promise.{waveError, waveUnit, openError, openUnit, Accepts, SinPi, CosPi, Sin, Cos}
 use Rattle.circle.proofs.Near.{less, wave-number, wave-inside, sinPi-is, cosPi-is, sin-is, cos-is, sinPi-near, cosPi-near, sin-near, cos-near}
 use Rattle.circle.proofs.Whole.{sinPi-whole, cosPi-whole}
 
@@ -43,7 +43,7 @@ module _ (x before : Float) where
   pub sinPi-promised : (after : Float) → Number x → after ≡ sinPiOf x → SinPi x 0 before after
   sinPi-promised after h e = record {
     answers = given sinPiOf x before after h e (subst Number (sym (e ∙ sinPi-is x h)) (wave-number _ (less _)));
-    near = λ a c d w pos turn. subst (λ (r : Float). Sine (2 * c * P x) (2 * c * N x) (w * 2 ^ 149) (P r) (N r) (2 ^ 149) (openError d w x) (openUnit w)) (sym e) (sinPi-near x h c d w pos turn);
+    near = λ a c d w pos turn. subst (λ (r : Float). Sine (c * (2 * P x)) (c * (2 * N x)) (w * 2 ^ 149) (P r) (N r) (2 ^ 149) (openError d w x) (openUnit w)) (sym e) (sinPi-near x h c d w pos turn);
     whole = λ a k l w. e ∙ sinPi-whole x h k l w;
     inside = λ a. subst (λ (r : Float). mag r ≤ 2 ^ 149) (sym (e ∙ sinPi-is x h)) (wave-inside _ (less _));
   }
@@ -55,7 +55,7 @@ module _ (x before : Float) where
   pub cosPi-promised : (after : Float) → Number x → after ≡ cosPiOf x → CosPi x 0 before after
   cosPi-promised after h e = record {
     answers = given cosPiOf x before after h e (subst Number (sym (e ∙ cosPi-is x h)) (wave-number _ (less _)));
-    near = λ a c d w pos turn. subst (λ (r : Float). Cosine (2 * c * P x) (2 * c * N x) (w * 2 ^ 149) (P r) (N r) (2 ^ 149) (openError d w x) (openUnit w)) (sym e) (cosPi-near x h c d w pos turn);
+    near = λ a c d w pos turn. subst (λ (r : Float). Cosine (c * (2 * P x)) (c * (2 * N x)) (w * 2 ^ 149) (P r) (N r) (2 ^ 149) (openError d w x) (openUnit w)) (sym e) (cosPi-near x h c d w pos turn);
     whole = λ a k l w. e ∙ cosPi-whole x h k l w;
     inside = λ a. subst (λ (r : Float). mag r ≤ 2 ^ 149) (sym (e ∙ cosPi-is x h)) (wave-inside _ (less _));
   }

@@ -1,14 +1,14 @@
 -- The floors: what is computed of w, the digits of a fraction x / d of a quarter turn that are left, is within 6 units of 2 ^ -32 of the polynomial at x / d. Assumes nothing.
 use mathlib.Core.Path.{_≡_, refl, sym, ap, _∙_}
 use mathlib.Core.Bool.{Bool, true, false}
-use Prim.Native.Nat.{ℕ, suc, _+_, _-_, _*_, _/_, _^_, _≤_, _<_}
-use native.Mathlib.Nat.{le-trans, le-of-eq, le-of-lt, mul-le-mul, mul-le-mul-left, mul-le-mul-right, le-of-mul-le-mul-right, div-mul-le-self, lt-div-mul-add, pow-suc, pow-succ', one-le-pow, add-le-add, le-refl, sub-le}
+use Prim.Native.Nat.{ℕ, _+_, _-_, _*_, _/_, _^_, _≤_, _<_}
+use native.Mathlib.Nat.{le-trans, le-of-lt, mul-le-mul, mul-le-mul-left, mul-le-mul-right, le-of-mul-le-mul-right, div-mul-le-self, lt-div-mul-add, pow-suc, pow-succ', one-le-pow, add-le-add, le-refl, sub-le}
 use native.Mathlib.Omega.{arith}
 use lib.Dec.{lit<, lit≤}
 use lib.ListN.{length}
 use lib.Pow.{pow-add}
 use Rattle.exact.specs.Polynomial.{value}
-use Rattle.exact.proofs.Polynomial.{odd, value-odd}
+use Rattle.exact.proofs.Polynomial.{value-odd}
 use Rattle.exact.proofs.Power.{mul-pow}
 use Rattle.fixed.specs.Horner.{alternating}
 use Rattle.fixed.proofs.Alternating.{Close, close-step, signed, loss, falling, alternating-close, alternating-most}

@@ -1,9 +1,8 @@
 -- The digits of a float shifted to their place in a phase: m 2 ^ e / 2 ^ 87, cut off, of which 64 digits are left. Assumes nothing.
 use mathlib.Core.Path.{_≡_, sym, ap, _∙_}
 use Prim.Native.Nat.{ℕ, _+_, _-_, _*_, _/_, _%_, _^_, _≤_, _<_}
-use native.Mathlib.Nat.{le-trans, le-of-eq, lt-of-le-of-lt, lt-of-lt-of-le, mul-assoc, mul-le-mul-right, mul-lt-mul-of-pos-right, div-le-self, div-eq-of-lt, mul-div-cancel, mul-div-mul-right, mod-eq-of-lt, mul-mod-left}
+use native.Mathlib.Nat.{le-trans, le-of-eq, lt-of-le-of-lt, lt-of-lt-of-le, mul-assoc, mul-lt-mul-of-pos-right, div-le-self, div-eq-of-lt, mul-div-cancel, mul-div-mul-right, mod-eq-of-lt, mul-mod-left}
 use native.Mathlib.Omega.{arith}
-use lib.Dec.{lit<}
 use lib.Pow.{pow-add, pow-pos, pow-mono}
 
 -- m has 24 digits

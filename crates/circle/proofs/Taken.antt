@@ -1,10 +1,10 @@
 -- The phases as they are taken from a float's bit pattern, against the float's units. Assumes nothing.
-use mathlib.Core.Path.{_≡_, refl, sym, ap, _∙_, subst₂}
+use mathlib.Core.Path.{_≡_, refl, sym, ap, _∙_}
 use mathlib.Core.Logic.{_⊎_, inl, inr}
 use Prim.Native.Nat.{ℕ, suc, _+_, _-_, _*_, _/_, _%_, _^_, _≤_, _<_}
-use native.Mathlib.Nat.{le-trans, le-of-eq, le-of-lt, lt-of-le-of-lt, lt-of-lt-of-le, mul-comm, mul-assoc, mul-zero, mul-le-mul-left, mul-le-mul-right, mul-lt-mul-of-pos-right, le-of-mul-le-mul-right, lt-of-mul-lt-mul-right, mul-div-mul-right, div-eq-of-lt, add-mul-mod-self-right, le-of-suc-le-suc, pow-suc}
+use native.Mathlib.Nat.{le-trans, le-of-eq, le-of-lt, lt-of-le-of-lt, lt-of-lt-of-le, mul-comm, mul-zero, mul-le-mul-left, mul-le-mul-right, mul-lt-mul-of-pos-right, mul-div-mul-right, div-eq-of-lt, add-mul-mod-self-right, le-of-suc-le-suc, pow-suc}
 use native.Mathlib.Omega.{arith}
-use lib.Dec.{lit<, lit≤}
+use lib.Dec.{lit≤}
 use lib.Pow.{pow-add, pow-pos, pow-mono}
 use lib.Ieee.{Float, binary32, toBits}
 use Rattle.units.specs.Units.{mag, Number}

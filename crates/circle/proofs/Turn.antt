@@ -1,7 +1,7 @@
 -- The whole turn: at every phase, what is computed is the sine, and a quarter on the cosine, within 13 / 2 units of 2 ^ -32. Assumes nothing.
-use mathlib.Core.Path.{_≡_, refl, sym, ap, ap₂, _∙_, subst₂}
-use mathlib.Core.Logic.{_⊎_, inl, inr}
-use mathlib.Core.Bool.{Bool, true, false, cond}
+use mathlib.Core.Path.{_≡_, refl, sym, ap, _∙_}
+use mathlib.Core.Logic.{inl, inr}
+use mathlib.Core.Bool.{true, false}
 use Prim.Native.Nat.{ℕ, zero, suc, _+_, _-_, _*_, _/_, _%_, _^_, _≤_, _<_}
 use native.Mathlib.Nat.{le-trans, le-of-lt, mul-pos, one-le-pow, mul-le-mul-right, div-lt-iff-lt-mul}
 use native.Mathlib.Omega.{arith}
@@ -11,8 +11,8 @@ use borrow.Author.Tests.{eq-eqb, ne-eqb, lt-ltb, le-ltb}
 use Rattle.units.proofs.Naturals.{le-or-lt}
 use Rattle.exact.specs.Polynomial.{value}
 use Rattle.exact.proofs.Approximation.{near-instead}
-use Rattle.exact.proofs.Limits.{near-wider, Both, both-wider, both-same}
-use Rattle.exact.proofs.Quarter.{quarter, quarterUnit, fine, quarter-unit-pos, fine-pos}
+use Rattle.exact.proofs.Limits.{near-wider, Both, both-wider}
+use Rattle.exact.proofs.Quarter.{quarter, quarterUnit, fine, fine-pos}
 use Rattle.exact.proofs.Turns.{turned0, turned1, turned2, turned3}
 use Rattle.circle.specs.Kernel.{quarterSine}
 use Rattle.circle.specs.Wave.{placeOf, sizeOf}
@@ -118,11 +118,8 @@ module _ (t : ℕ) (small : t < 2 ^ 200) where
       (record { few = omega arith; low = omega arith; high = omega arith }) (record { few = omega arith; low = omega arith; high = omega arith })
 
   -- the place, after k quarters
-  placed : {C C′ S S′ U a b : ℕ} → Both (k * quarter * (quarterUnit * 2 ^ 62) + quarter * r * quarterUnit) (quarterUnit * 2 ^ 62 * quarterUnit) C C′ S S′ U a b → Both (quarter * t) (quarterUnit * 2 ^ 62) C C′ S S′ U a b
-  placed h = both-same (mul-pos (mul-pos quarter-unit-pos (pow-pos 62)) quarter-unit-pos) (through quarter quarterUnit (2 ^ 62) k r (omega arith)) h
-    where
-      through : (c u H k r : ℕ) → k * H + r ≡ t → (k * c * (u * H) + c * r * u) * (u * H) ≡ c * t * (u * H * u)
-      through c u H k r e = rw (← e) (omega arith)
+  placed : {C C′ S S′ U a b : ℕ} → Both (quarter * (k * 2 ^ 62 + r)) (quarterUnit * 2 ^ 62) C C′ S S′ U a b → Both (quarter * t) (quarterUnit * 2 ^ 62) C C′ S S′ U a b
+  placed h = let e : k * 2 ^ 62 + r ≡ t = omega arith in rw e at h
 
   -- a turn of so many quarters costs next to nothing
   few-quarters : k * 2 ^ 34 ≤ fine
@@ -141,9 +138,6 @@ module _ (t : ℕ) (small : t < 2 ^ 200) where
   pub phase-near : Both (quarter * t) (quarterUnit * 2 ^ 62) (plusOf on) (minusOf on) (plusOf here) (minusOf here) D 13 (2 * D)
   phase-near = go (k % 4) refl
     where
-      qpos : 0 < quarterUnit * 2 ^ 62
-      qpos = mul-pos quarter-unit-pos (pow-pos 62)
-
       bpos : 0 < 4 * D
       bpos = lit< tt
 
@@ -154,10 +148,10 @@ module _ (t : ℕ) (small : t < 2 ^ 200) where
       rest-on = omega arith
 
       go : (i : ℕ) → k % 4 ≡ i → Both (quarter * t) (quarterUnit * 2 ^ 62) (plusOf on) (minusOf on) (plusOf here) (minusOf here) D 13 (2 * D)
-      go zero e = instead (at1 on r rest-on (omega arith)) (at0 here r rest (omega arith)) (placed (wider (turned0 k qpos bpos within e)))
-      go (suc zero) e = instead (at2 on r rest-on (omega arith)) (at1 here r rest (omega arith)) (placed (wider (turned1 k qpos bpos within e)))
-      go (suc (suc zero)) e = instead (at3 on r rest-on (omega arith)) (at2 here r rest (omega arith)) (placed (wider (turned2 k qpos bpos within e)))
-      go (suc (suc (suc zero))) e = instead (at0 on r rest-on (omega arith)) (at3 here r rest (omega arith)) (placed (wider (turned3 k qpos bpos within e)))
+      go zero e = instead (at1 on r rest-on (omega arith)) (at0 here r rest (omega arith)) (placed (wider (turned0 r (2 ^ 62) k (pow-pos 62) bpos within e)))
+      go (suc zero) e = instead (at2 on r rest-on (omega arith)) (at1 here r rest (omega arith)) (placed (wider (turned1 r (2 ^ 62) k (pow-pos 62) bpos within e)))
+      go (suc (suc zero)) e = instead (at3 on r rest-on (omega arith)) (at2 here r rest (omega arith)) (placed (wider (turned2 r (2 ^ 62) k (pow-pos 62) bpos within e)))
+      go (suc (suc (suc zero))) e = instead (at0 on r rest-on (omega arith)) (at3 here r rest (omega arith)) (placed (wider (turned3 r (2 ^ 62) k (pow-pos 62) bpos within e)))
       go (suc (suc (suc (suc i)))) e = absurd (omega arith)
 
 -- ---- half a turn on, the opposite

@@ -1,7 +1,7 @@
 -- The exact cases of pi x: where 2 x is a whole number the phase is a whole number of quarters, and there the pattern is that of +0, 1, +0 or -1. Assumes nothing.
 use mathlib.Core.Path.{_≡_, refl, sym, ap, _∙_}
 use mathlib.Core.Bool.{Bool, true, false, cond}
-use Prim.Native.Nat.{ℕ, zero, suc, _+_, _-_, _*_, _/_, _%_, _^_, _≤_, _<_}
+use Prim.Native.Nat.{ℕ, zero, suc, _+_, _*_, _/_, _%_, _^_, _≤_, _<_}
 use mathlib.Core.Logic.{inl, inr}
 use native.Mathlib.Nat.{le-dest, mul-le-mul-right, mul-div-cancel, add-mul-mod-self-right}
 use native.Mathlib.Omega.{arith}

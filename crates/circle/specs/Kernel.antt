@@ -1,7 +1,7 @@
 -- A quarter of the sine as the program computes it. Definitions only.
 -- Proofs outside of proofs/Method.antt and proofs/Rounding.antt cite laws of `quarterSine`, never its text.
 use mathlib.Core.List.{List, [], _∷_}
-use Prim.Native.Nat.{ℕ, _-_, _*_, _/_, _^_}
+use Prim.Native.Nat.{ℕ, _-_, _*_, _/_}
 use Rattle.fixed.specs.Horner.{alternating}
 
 -- sin (pi t / 2) is near t (first - rest(t ^ 2) t ^ 2), the signs of rest alternating; tools/circle.py finds the coefficients

@@ -23,10 +23,10 @@ pub record Accepts (x : Float) : Type 0 where
   pub number : Number x
   pub size : mag x ≤ 8192 * 2 ^ 149
 
--- the angle pi x, where c / w is pi / 2 cut off, is 2 c x / w: so many units of 1 / (w 2 ^ 149). pi / 2 may be d / w more
+-- pi x is 2 x quarter turns. Where c / w is pi / 2 cut off, that is c / w times 2 x, in units of 1 / (w 2 ^ 149); pi / 2 may be d / w more
 -- the error against it: 17 2 ^ -29 + 2 |x| d / w, for enclosures as narrow as one likes
 abbrev pub openError : ℕ → ℕ → Float → ℕ
-openError d w x = waveError * (w * 2 ^ 149) + waveUnit * (2 * d * mag x)
+openError d w x = waveError * (w * 2 ^ 149) + waveUnit * (d * (2 * mag x))
 
 abbrev pub openUnit : ℕ → ℕ
 openUnit w = waveUnit * (w * 2 ^ 149)
@@ -44,7 +44,7 @@ pub record SinPi (x : Float) (code : ℕ) (before after : Float) : Type 0 where
   pub answers : Answers Number sinPiOf x code before after
   -- within 17 2 ^ -29 of the real sin (pi x), for every enclosure of pi / 2
   pub near : Number x → (c d w : ℕ) → 0 < w → QuarterTurn c d w →
-      Sine (2 * c * P x) (2 * c * N x) (w * 2 ^ 149) (P after) (N after) (2 ^ 149) (openError d w x) (openUnit w)
+      Sine (c * (2 * P x)) (c * (2 * N x)) (w * 2 ^ 149) (P after) (N after) (2 ^ 149) (openError d w x) (openUnit w)
   -- exactly 0, 1 or -1 where 2 x is a whole number k - l, of which a quarter turn each; 0 is +0
   pub whole : Number x → (k l : ℕ) → 2 * P x + l * 2 ^ 149 ≡ 2 * N x + k * 2 ^ 149 → after ≡ atQuarter (k + 3 * l)
   -- from -1 to 1
@@ -54,7 +54,7 @@ pub record SinPi (x : Float) (code : ℕ) (before after : Float) : Type 0 where
 pub record CosPi (x : Float) (code : ℕ) (before after : Float) : Type 0 where
   pub answers : Answers Number cosPiOf x code before after
   pub near : Number x → (c d w : ℕ) → 0 < w → QuarterTurn c d w →
-      Cosine (2 * c * P x) (2 * c * N x) (w * 2 ^ 149) (P after) (N after) (2 ^ 149) (openError d w x) (openUnit w)
+      Cosine (c * (2 * P x)) (c * (2 * N x)) (w * 2 ^ 149) (P after) (N after) (2 ^ 149) (openError d w x) (openUnit w)
   pub whole : Number x → (k l : ℕ) → 2 * P x + l * 2 ^ 149 ≡ 2 * N x + k * 2 ^ 149 → after ≡ atQuarter (k + 3 * l + 1)
   pub inside : Number x → mag after ≤ 2 ^ 149
 

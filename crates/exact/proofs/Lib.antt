@@ -23,4 +23,3 @@ pub mod Shift
 pub mod Quarter
 pub mod Turns
 pub mod Zero
-pub mod Angles

@@ -1,10 +1,11 @@
 -- Laws of a limit near a fraction, and of cosine and sine near two fractions at one place: signs, wider bounds, the place written with other numbers.
-use mathlib.Core.Path.{_≡_, sym}
+use mathlib.Core.Path.{_≡_}
 use Prim.Native.Nat.{ℕ, _+_, _*_, _^_, _≤_, _<_}
-use native.Mathlib.Nat.{mul-comm, mul-le-mul-left, mul-le-mul-right, le-of-mul-le-mul-right, one-le-pow}
+use native.Mathlib.Nat.{add-zero, zero-add, mul-comm, mul-le-mul-left, mul-le-mul-right, le-of-mul-le-mul-right, one-le-pow}
 use native.Mathlib.Omega.{arith}
 use Rattle.exact.specs.Series.{partial, over, fourth, LimitNear}
-use Rattle.exact.proofs.Series.{over-scale, partial-scale}
+use Rattle.exact.specs.Circle.{Cosine, Sine}
+use Rattle.exact.proofs.Series.{over-scale, partial-scale, partial-zero}
 use Rattle.exact.proofs.Within.{Within}
 
 -- ---- one limit
@@ -88,3 +89,38 @@ both-cancel {p} {q} k pos h = record {
 -- at the same place written in another way
 pub both-same : {p q p′ q′ C C′ S S′ U a b : ℕ} → 0 < q → p * q′ ≡ p′ * q → Both p q C C′ S S′ U a b → Both p′ q′ C C′ S S′ U a b
 both-same {p} {q} {p′} {q′} pos same h = both-cancel q pos (rw (same, mul-comm q q′) at (both-scaled q′ h))
+
+-- ---- as a promise says it: at p / q or at - m / q
+
+-- cosine of either sign
+pub cosine-of : {p m q C C′ S S′ U a b : ℕ} → Both (p + m) q C C′ S S′ U a b → Cosine p m q C C′ U a b
+cosine-of h = record { near = h .cosine }
+
+-- the sums of sine at zero
+first-zero : (q n : ℕ) → partial (fourth 1) 0 q n ≡ 0
+unfolding fourth
+first-zero q n = rw partial-zero (omega arith)
+
+third-zero : (q n : ℕ) → partial (fourth 3) 0 q n ≡ 0
+unfolding fourth
+third-zero q n = rw partial-zero (omega arith)
+
+-- sine of p / q
+pub sine-plus : {p q C C′ S S′ U a b : ℕ} → Both p q C C′ S S′ U a b → Sine p 0 q S S′ U a b
+sine-plus {p} {q} h = record {
+  near = record {
+    from = h .sine .from;
+    least = λ n l. rw (first-zero q n, third-zero q n, add-zero, add-zero) (h .sine .least n l);
+    most = λ n l. rw (first-zero q n, third-zero q n, add-zero, add-zero) (h .sine .most n l);
+  };
+}
+
+-- sine of - m / q
+pub sine-minus : {m q C C′ S S′ U a b : ℕ} → Both m q C C′ S S′ U a b → Sine 0 m q S′ S U a b
+sine-minus {m} {q} h = record {
+  near = record {
+    from = h .sine .from;
+    least = λ n l. rw (first-zero q n, third-zero q n, zero-add, zero-add) (h .sine .most n l);
+    most = λ n l. rw (first-zero q n, third-zero q n, zero-add, zero-add) (h .sine .least n l);
+  };
+}

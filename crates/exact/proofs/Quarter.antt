@@ -1,14 +1,12 @@
 -- A fraction just below pi / 2, by what computed partial sums say there: cosine is nearly 0 and sine nearly 1, but cosine is above 0, and below 0 at the next fraction.
-use mathlib.Core.Path.{_≡_}
-use mathlib.Core.Bool.{Bool, _&&_}
+use mathlib.Core.Bool.{Bool}
 use Prim.Native.Nat.{ℕ, suc, _+_, _*_, _^_, _≤_, _<_}
-use native.Mathlib.Nat.{mul-pos, mul-le-mul-left, mul-le-mul-right, le-of-mul-le-mul-right}
+use native.Mathlib.Nat.{mul-le-mul-left, mul-le-mul-right, le-of-mul-le-mul-right}
 use native.Mathlib.Omega.{arith}
 use lib.Dec.{T, leb, leb→le}
 use lib.Pow.{pow-pos}
 use Rattle.exact.specs.Series.{partial, over, fourth}
-use Rattle.exact.proofs.Series.{over-pos, over-scale, partial-scale, partial-grows, partial-tail, fourth-most}
-use Rattle.exact.proofs.Within.{Within}
+use Rattle.exact.proofs.Series.{over-pos, partial-grows, partial-tail, fourth-most}
 use Rattle.exact.proofs.Rotation.{Known}
 
 -- ---- the fraction
@@ -17,6 +15,7 @@ use Rattle.exact.proofs.Rotation.{Known}
 unfoldable pub quarter : ℕ
 quarter = 0x1921fb54442d18469898cc51701b839a252049c1114cf98e804177d4c76273644
 
+-- and its denominator
 unfoldable pub quarterUnit : ℕ
 quarterUnit = 2 ^ 256
 
@@ -24,10 +23,12 @@ quarterUnit = 2 ^ 256
 unfoldable pub fine : ℕ
 fine = 2 ^ 240
 
+-- it is above zero
 pub quarter-unit-pos : 0 < quarterUnit
 unfolding quarterUnit
 quarter-unit-pos = pow-pos 256
 
+-- so is this
 pub fine-pos : 0 < fine
 unfolding fine
 fine-pos = pow-pos 240
@@ -75,6 +76,7 @@ quarter-near n l = record {
         5 * fine * partial (fourth r) quarter quarterUnit n + a * over quarterUnit n ≤ 5 * fine * partial (fourth s) quarter quarterUnit n + d * over quarterUnit n
     at r s a d t = later r s (5 * fine) a d quarter quarterUnit 70 quarter-unit-pos halves t n l
 
+-- how far from zero cosine is at least
 unfoldable pub sharp : ℕ
 sharp = 2 ^ 260
 

@@ -1,14 +1,14 @@
 -- Cosine and sine are nowhere far above 1: the sum of their squares at t is the square of that at t / 2, and at a small t it is at most 1 + t ^ 2. So after enough halvings it is as near 1 as one likes.
 use mathlib.Core.Path.{_≡_, refl, ap}
 use Prim.Native.Nat.{ℕ, zero, suc, _+_, _*_, _^_, _≤_, _<_}
-use native.Mathlib.Nat.{le-trans, le-mul-of-pos-right, mul-comm, mul-one, pow-zero, pow-suc, mul-pos, mul-le-mul, mul-le-mul-left, mul-le-mul-right, le-of-mul-le-mul-left, le-of-mul-le-mul-right, one-le-pow}
+use native.Mathlib.Nat.{le-trans, le-mul-of-pos-right, mul-comm, mul-one, pow-zero, pow-suc, mul-pos, mul-le-mul, mul-le-mul-left, mul-le-mul-right, le-of-mul-le-mul-right, one-le-pow}
 use native.Mathlib.Omega.{arith}
 use Rattle.exact.specs.Series.{partial, over, fourth}
 use Rattle.exact.proofs.Series.{below-power, over-pos, over-scale, partial-scale}
-use Rattle.exact.proofs.Addition.{Added, Addition, addition}
-use Rattle.exact.proofs.Within.{Within, within-mul, Distance, distance, root-order}
+use Rattle.exact.proofs.Addition.{Added, addition}
+use Rattle.exact.proofs.Within.{Within, within-mul, distance, root-order}
 use Rattle.exact.proofs.Rotation.{Sized}
-use Rattle.exact.proofs.Early.{cosine-most, cosine-least, sine-least, sine-most}
+use Rattle.exact.proofs.Early.{cosine-most, cosine-plus, sine-least, sine-most}
 
 -- ---- one doubling, by plain numbers
 
@@ -17,8 +17,8 @@ squares : (b c d Z W R T : ℕ) → c ≤ b * Z + T → d ≤ b * W + T → Z * 
 squares b c d Z W R T lc ld sum lz lw = omega (arith, mul-le-mul lc lc, mul-le-mul ld ld, ap (λ (n : ℕ). b * b * n) sum, mul-le-mul-left (b * T) lz, mul-le-mul-left (b * T) lw)
 
 -- with L = 8 M ^ 2 + 4 M + 1 for M = N + 1: a square of at most 1 + 1 / (2 M), within 1 / (16 M ^ 2), is at most 1 + 1 / N
-cubes : (N : ℕ) → N * ((8 * (suc N * suc N) + 4 * suc N + 1) * (8 * (suc N * suc N) + 4 * suc N + 1)) ≤ 64 * (suc N * suc N * (suc N * suc N)) * suc N
-cubes N = omega arith
+fifths : (N : ℕ) → N * ((8 * (suc N * suc N) + 4 * suc N + 1) * (8 * (suc N * suc N) + 4 * suc N + 1)) ≤ 64 * (suc N * suc N * (suc N * suc N)) * suc N
+fifths N = omega arith
 
 tamed : (N M L R S T : ℕ) → 0 < M → 0 < T → 8 * (M * M) + 4 * M + 1 ≡ L → N * (L * L) ≤ 64 * (M * M * (M * M)) * M → 2 * M * R ≤ suc (2 * M) * T →
     16 * (M * M) * (16 * (M * M)) * (T * S) ≤ (16 * (M * M) * R + 2 * T) * (16 * (M * M) * R + 2 * T) → N * S ≤ M * T
@@ -72,7 +72,7 @@ gap-most x y = omega (arith, distance x y .tight 1 (x + y) (record { least = ome
 doubled : (N o X Y X′ Y′ : ℕ) → 0 < o → 16 * (suc N * suc N) * o * X′ ≤ 16 * (suc N * suc N) * gap (X * X) (Y * Y) + o * o → 16 * (suc N * suc N) * o * Y′ ≤ 16 * (suc N * suc N) * (2 * (X * Y)) + o * o →
     2 * suc N * (X * X + Y * Y) ≤ suc (2 * suc N) * (o * o) → N * (X′ * X′ + Y′ * Y′) ≤ suc N * (o * o)
 doubled N o X Y X′ Y′ pos c s r =
-    tamed N (suc N) _ (X * X + Y * Y) (X′ * X′ + Y′ * Y′) (o * o) (omega arith) (mul-pos pos pos) refl (cubes N) r
+    tamed N (suc N) _ (X * X + Y * Y) (X′ * X′ + Y′ * Y′) (o * o) (omega arith) (mul-pos pos pos) refl (fifths N) r
     (rw (regroup (16 * (suc N * suc N))) (squares (16 * (suc N * suc N)) _ _ (gap (X * X) (Y * Y)) (2 * (X * Y)) (X * X + Y * Y) (o * o) c s (circle X Y) (gap-most (X * X) (Y * Y)) (omega (arith, distance X Y .square))))
   where
     regroup : (b : ℕ) → b * b * (o * o * (X′ * X′ + Y′ * Y′)) ≡ b * o * X′ * (b * o * X′) + b * o * Y′ * (b * o * Y′)
@@ -114,25 +114,25 @@ record Rounds (N p q : ℕ) : Type 0 where
 round-small : (N p q n : ℕ) → 0 < q → p * p * (N + 2) ≤ q * q → 5 ≤ n → Round N p q n
 round-small N p q n pos small many = record {
   holds =
-      through _ _ (over q n) (distance (partial (fourth 0) p q n) (partial (fourth 2) p q n) .tight (q * q) _ cosine)
+      through _ _ (over q n) (distance (partial (fourth 0) p q n) (partial (fourth 2) p q n) .tight 1 _ cosine)
       (distance (partial (fourth 1) p q n) (partial (fourth 3) p q n) .tight q _ sine);
 }
   where
     less : p ≤ q
     less = root-order p q (omega arith)
 
-    cosine : Within (q * q * partial (fourth 0) p q n) (q * q * partial (fourth 2) p q n) (q * q * over q n)
-    cosine = record {
-      least = omega (arith, mul-le-mul-left (q * q) (cosine-most p q n many pos (omega (arith, less))));
-      most = omega (arith, cosine-least p q n many pos (omega (arith, less)) (omega (arith, less)), mul-le-mul-right (over q n) (mul-le-mul less less));
-    }
+    early : 5 * p ≤ 8 * q
+    early = omega (arith, less)
+
+    cosine : Within (1 * partial (fourth 0) p q n) (1 * partial (fourth 2) p q n) (over q n)
+    cosine = record { least = omega (arith, cosine-most p q n many pos early); most = omega (arith, cosine-plus p q n many pos early less) }
 
     sine : Within (q * partial (fourth 1) p q n) (q * partial (fourth 3) p q n) (p * over q n)
-    sine = record { least = sine-most p q n many pos (omega (arith, less)); most = omega (arith, mul-le-mul-left q (sine-least p q n many pos (omega (arith, less)))) }
+    sine = record { least = sine-most p q n many pos early; most = omega (arith, mul-le-mul-left q (sine-least p q n many pos early)) }
 
-    through : (X Y o : ℕ) → q * q * X ≤ q * q * o → q * Y ≤ p * o → N * (X * X + Y * Y) ≤ suc N * (o * o)
+    through : (X Y o : ℕ) → 1 * X ≤ o → q * Y ≤ p * o → N * (X * X + Y * Y) ≤ suc N * (o * o)
     through X Y o lx ly =
-        let lx′ : X ≤ o = le-of-mul-le-mul-left lx (mul-pos pos pos) in
+        let lx′ : X ≤ o = omega arith in
         le-of-mul-le-mul-right (omega (arith, mul-le-mul-left (N * q * q) (mul-le-mul lx′ lx′), mul-le-mul-left N (mul-le-mul ly ly), mul-le-mul-right (o * o) small)) (mul-pos pos pos)
 
 -- after j halvings

@@ -1,17 +1,17 @@
 -- A small change of the argument changes cosine and sine by no more, of either direction: many small steps, each by the addition theorem, at bounded cosine and sine.
 use mathlib.Core.Path.{_≡_, refl, ap}
 use Prim.Native.Nat.{ℕ, zero, suc, _+_, _*_, _^_, _≤_, _<_}
-use native.Mathlib.Nat.{le-trans, le-mul-of-pos-right, mul-comm, mul-pos, mul-le-mul-left, mul-le-mul-right, le-of-mul-le-mul-right, one-le-pow, le-dest, le-of-lt, lt-of-not-le}
+use native.Mathlib.Nat.{le-trans, le-mul-of-pos-right, mul-pos, mul-le-mul-left, mul-le-mul-right, le-of-mul-le-mul-right, one-le-pow, le-dest, le-of-lt, lt-of-not-le}
 use native.Mathlib.Decide.{decLe}
 use native.Mathlib.Omega.{arith}
 use Rattle.exact.specs.Series.{partial, over, fourth}
 use Rattle.exact.proofs.Series.{over-scale, partial-scale}
-use Rattle.exact.proofs.Addition.{Added, Addition, addition}
-use Rattle.exact.proofs.Within.{Within, within-sym, within-cancel}
-use Rattle.exact.proofs.Rotation.{Known, Sized, Rotated, rotated}
+use Rattle.exact.proofs.Addition.{addition}
+use Rattle.exact.proofs.Within.{Within, within-cancel}
+use Rattle.exact.proofs.Rotation.{Known, Rotated, rotated}
 use Rattle.exact.proofs.Early.{cosine-most, cosine-least, sine-least, sine-most}
-use Rattle.exact.proofs.Round.{Bounded, bounded}
-use Rattle.exact.proofs.Limits.{near-through, Both, both-wider}
+use Rattle.exact.proofs.Round.{bounded}
+use Rattle.exact.proofs.Limits.{near-through, Both, both-wider, both-scaled, both-same}
 
 -- up to the term n, cosine and sine at p' / q are within c / e of those at p / q
 record Steady (c e p p′ q n : ℕ) : Type 0 where
@@ -160,3 +160,12 @@ moved {p} {p′} {q} h e qpos bpos epos l l′ near =
       | yes up ↦ let (i, s) = le-dest up in rw s at (onward h e i q qpos epos (omega arith) bpos near)
       | no up ↦ let (i, s) = le-dest (le-of-lt (lt-of-not-le up)) in back h e i q qpos epos (omega arith) bpos (rw (← s) at near)
     ]
+
+-- the same between places of any denominators: within a / b + |p / q - p' / q'| + 1 / e
+pub moved-to : {p q p′ q′ C C′ S S′ U a b : ℕ} (h e : ℕ) → 0 < q → 0 < q′ → 0 < b → 0 < e → p * q′ ≤ p′ * q + h → p′ * q ≤ p * q′ + h →
+    Both p q C C′ S S′ U a b → Both p′ q′ C C′ S S′ U (a * (q * q′ * e) + b * (h * e + q * q′)) (b * (q * q′ * e))
+moved-to {p} {q} {p′} {q′} h e qpos qpos′ bpos epos l l′ near =
+    both-same (mul-pos qpos qpos′) (same p′ q q′) (moved h e (mul-pos qpos qpos′) bpos epos l l′ (both-scaled q′ near))
+  where
+    same : (p q r : ℕ) → p * q * r ≡ p * (q * r)
+    same p q r = omega arith

@@ -5,10 +5,10 @@ use native.Mathlib.Nat.{zero-add, zero-mul, div-add-mod, mul-comm, mul-assoc, mu
 use native.Mathlib.Omega.{arith}
 use Rattle.exact.specs.Series.{partial, over, fourth}
 use Rattle.exact.proofs.Series.{over-scale, partial-scale}
-use Rattle.exact.proofs.Addition.{Added, Addition, addition}
+use Rattle.exact.proofs.Addition.{addition}
 use Rattle.exact.proofs.Within.{Within}
-use Rattle.exact.proofs.Rotation.{Known, Sized, Rotated, rotated}
-use Rattle.exact.proofs.Round.{Bounded, bounded}
+use Rattle.exact.proofs.Rotation.{Known, Rotated, rotated}
+use Rattle.exact.proofs.Round.{bounded}
 use Rattle.exact.proofs.Limits.{near-minus, near-through, Both, both-wider, both-scaled}
 use Rattle.exact.proofs.Quarter.{quarter, quarterUnit, fine, quarter-unit-pos, fine-pos, quarter-near}
 
@@ -69,14 +69,16 @@ module _ (f c q : ℕ) (from : ℕ) (turn : (n : ℕ) → from ≤ n → Known 0
       wider : (a b f k : ℕ) → ((a * f + k * b) * f + b * f) * (b * f) ≤ (a * f + suc k * b) * (b * f * f)
       wider a b f k = omega arith
 
--- cosine and sine at k quarters more, as (C, S) turned k times by a quarter
+-- ---- quarters of pi / 2, cut off
+
+-- at any p / q and k quarters more
 pub turned : {p q C C′ S S′ U a b : ℕ} (k : ℕ) → 0 < q → 0 < b → Both p q C C′ S S′ U a b →
     Both (k * quarter * q + p * quarterUnit) (q * quarterUnit) (pick k C S′ C′ S) (pick k C′ S C S′) (pick k S C S′ C′) (pick k S′ C′ S C) U (a * fine + k * b) (b * fine)
 turned {p} {q} k qpos bpos h =
     rw (mul-assoc k quarter q)
     (many fine (quarter * q) (q * quarterUnit) 70 (λ n l. rw (mul-comm q quarterUnit) (known-scaled q (quarter-near n l))) fine-pos (mul-pos qpos quarter-unit-pos) k bpos (both-scaled quarterUnit h))
 
--- ---- by what four quarters leave of k
+-- ---- at x / d quarters and k more, by what k leaves when divided by 4
 
 pick-rest : (m i w x y z : ℕ) → pick (4 * m + i) w x y z ≡ pick i w x y z
 unfolding pick
@@ -89,26 +91,32 @@ pick-rest (suc m) i w x y z = rw (more m i) (pick-rest m i w x y z)
 pick-by : (k i : ℕ) → k % 4 ≡ i → (w x y z : ℕ) → pick k w x y z ≡ pick i w x y z
 pick-by k i e w x y z = rw (div-add-mod k 4, e) at (pick-rest (k / 4) (k % 4) w x y z)
 
-module _ {p q C C′ S S′ U a b : ℕ} (k : ℕ) (qpos : 0 < q) (bpos : 0 < b) (h : Both p q C C′ S S′ U a b) where
-  by-rest : (i : ℕ) → k % 4 ≡ i → Both (k * quarter * q + p * quarterUnit) (q * quarterUnit) (pick i C S′ C′ S) (pick i C′ S C S′) (pick i S C S′ C′) (pick i S′ C′ S C) U (a * fine + k * b) (b * fine)
-  by-rest i e = rw (pick-by k i e C S′ C′ S, pick-by k i e C′ S C S′, pick-by k i e S C S′ C′, pick-by k i e S′ C′ S C) at (turned k qpos bpos h)
+module _ {C C′ S S′ U a b : ℕ} (x d k : ℕ) (dpos : 0 < d) (bpos : 0 < b) (h : Both (quarter * x) (quarterUnit * d) C C′ S S′ U a b) where
+  by-rest : (i : ℕ) → k % 4 ≡ i →
+      Both (quarter * (k * d + x)) (quarterUnit * d) (pick i C S′ C′ S) (pick i C′ S C S′) (pick i S C S′ C′) (pick i S′ C′ S C) U (a * fine + k * b) (b * fine)
+  by-rest i e =
+      rw (place quarter k d x, ← pick-by k i e C S′ C′ S, ← pick-by k i e C′ S C S′, ← pick-by k i e S C S′ C′, ← pick-by k i e S′ C′ S C)
+      (many fine (quarter * d) (quarterUnit * d) 70 (λ n l. known-scaled d (quarter-near n l)) fine-pos (mul-pos quarter-unit-pos dpos) k bpos h)
+    where
+      place : (c k d x : ℕ) → c * (k * d + x) ≡ k * (c * d) + c * x
+      place c k d x = omega arith
 
   -- whole turns
-  pub turned0 : k % 4 ≡ 0 → Both (k * quarter * q + p * quarterUnit) (q * quarterUnit) C C′ S S′ U (a * fine + k * b) (b * fine)
+  pub turned0 : k % 4 ≡ 0 → Both (quarter * (k * d + x)) (quarterUnit * d) C C′ S S′ U (a * fine + k * b) (b * fine)
   unfolding pick
   turned0 = by-rest 0
 
   -- and one quarter
-  pub turned1 : k % 4 ≡ 1 → Both (k * quarter * q + p * quarterUnit) (q * quarterUnit) S′ S C C′ U (a * fine + k * b) (b * fine)
+  pub turned1 : k % 4 ≡ 1 → Both (quarter * (k * d + x)) (quarterUnit * d) S′ S C C′ U (a * fine + k * b) (b * fine)
   unfolding pick
   turned1 = by-rest 1
 
   -- and two
-  pub turned2 : k % 4 ≡ 2 → Both (k * quarter * q + p * quarterUnit) (q * quarterUnit) C′ C S′ S U (a * fine + k * b) (b * fine)
+  pub turned2 : k % 4 ≡ 2 → Both (quarter * (k * d + x)) (quarterUnit * d) C′ C S′ S U (a * fine + k * b) (b * fine)
   unfolding pick
   turned2 = by-rest 2
 
   -- and three
-  pub turned3 : k % 4 ≡ 3 → Both (k * quarter * q + p * quarterUnit) (q * quarterUnit) S S′ C′ C U (a * fine + k * b) (b * fine)
+  pub turned3 : k % 4 ≡ 3 → Both (quarter * (k * d + x)) (quarterUnit * d) S S′ C′ C U (a * fine + k * b) (b * fine)
   unfolding pick
   turned3 = by-rest 3

@@ -1,15 +1,17 @@
 -- The first zero of cosine is between quarter / quarterUnit and the next fraction; so every enclosure of pi / 2 is near them.
 use mathlib.Core.Path.{_≡_, ap}
 use Prim.Native.Nat.{ℕ, suc, _+_, _*_, _^_, _≤_, _<_}
-use native.Mathlib.Nat.{le-trans, le-of-lt, lt-of-not-le, le-dest, mul-comm, mul-pos, mul-le-mul, mul-le-mul-left, mul-le-mul-right, le-of-mul-le-mul-left, le-of-mul-le-mul-right, one-le-pow}
+use native.Mathlib.Nat.{le-of-lt, lt-of-not-le, le-dest, mul-comm, mul-pos, mul-le-mul, mul-le-mul-left, mul-le-mul-right, le-of-mul-le-mul-left, le-of-mul-le-mul-right, one-le-pow}
 use native.Mathlib.Decide.{decLe}
 use native.Mathlib.Omega.{arith}
 use lib.Dec.{leb→le}
-use Rattle.exact.specs.Series.{partial, over, fourth, LimitPlus}
-use Rattle.exact.specs.Circle.{CosinePlus, CosineMinus, QuarterTurn}
+use Rattle.exact.specs.Series.{partial, over, fourth}
+use Rattle.exact.specs.Circle.{QuarterTurn}
 use Rattle.exact.proofs.Series.{over-pos, over-scale, partial-scale}
-use Rattle.exact.proofs.Addition.{Added, Addition, addition}
+use Rattle.exact.proofs.Addition.{Added, addition}
 use Rattle.exact.proofs.Early.{cosine-most, cosine-least, cosine-plus, sine-least}
+use Rattle.exact.proofs.Limits.{Both, both-wider}
+use Rattle.exact.proofs.Shift.{moved-to}
 use Rattle.exact.proofs.Quarter.{quarter, quarterUnit, sharp, quarter-unit-pos, quarter-above, next-beneath}
 
 -- ---- cosine is above zero up to quarter / quarterUnit
@@ -154,3 +156,29 @@ quarter-known {c} {d} {w} pos h = (
         let a = above (h .s) (h .t) (h .positive) (le-of-mul-le-mul-right zero-at pos) in
         let n = limit .from (2 * sharp) + a .from in
         omega (arith, limit .least (2 * sharp) n (omega arith), a .holds n (omega arith), over-pos (h .t) n (h .positive))
+
+-- ---- any enclosure instead of ours
+
+wider : (a b a′ b′ v z Y T : ℕ) → a * b′ * Y + b * b′ * T ≤ a′ * b * Y → (a * (v * Y) + b * (v * T + z * Y)) * (b′ * v) ≤ (a′ * v + b′ * z) * (b * (v * Y))
+wider a b a′ b′ v z Y T room = omega (arith, mul-le-mul-left (v * v) room)
+
+-- what is within a / b at x / D times ours is within a' / b' + d x / (w D) at x / D times c / w, where a' / b' leaves room for x / (quarterUnit D) + 1 / e
+pub enclosed : {c d w C C′ S S′ U a b : ℕ} (x D e a′ b′ : ℕ) → 0 < w → 0 < D → 0 < b → 0 < e → QuarterTurn c d w →
+    a * b′ * (quarterUnit * D * e) + b * b′ * (x * e + quarterUnit * D) ≤ a′ * b * (quarterUnit * D * e) →
+    Both (quarter * x) (quarterUnit * D) C C′ S S′ U a b → Both (c * x) (w * D) C C′ S S′ U (a′ * (w * D) + b′ * (d * x)) (b′ * (w * D))
+enclosed {c} {d} {w} {a = a} {b = b} x D e a′ b′ wpos dpos bpos epos turn room h =
+    both-wider (mul-pos bpos (mul-pos (mul-pos (mul-pos quarter-unit-pos dpos) (mul-pos wpos dpos)) epos)) (rw (split quarterUnit, same quarterUnit) (wider _ _ _ _ _ _ _ _ room))
+    (moved-to (x * D * (d * quarterUnit + w)) e (mul-pos quarter-unit-pos dpos) (mul-pos wpos dpos) bpos epos
+    (far quarter quarterUnit (quarter-known wpos turn .1)) (near quarter quarterUnit (quarter-known wpos turn .0)) h)
+  where
+    far : (Q W : ℕ) → Q * w ≤ (c + d) * W → Q * x * (w * D) ≤ c * x * (W * D) + x * D * (d * W + w)
+    far Q W l = omega (arith, mul-le-mul-left (x * D) l)
+
+    near : (Q W : ℕ) → c * W ≤ suc Q * w → c * x * (W * D) ≤ Q * x * (w * D) + x * D * (d * W + w)
+    near Q W l = omega (arith, mul-le-mul-left (x * D) l)
+
+    same : (W : ℕ) → W * D * (w * D) * e ≡ w * D * (W * D * e)
+    same W = omega arith
+
+    split : (W : ℕ) → x * D * (d * W + w) * e + W * D * (w * D) ≡ w * D * (x * e + W * D) + d * x * (W * D * e)
+    split W = omega arith

@@ -1,5 +1,5 @@
 -- `circle::phase::three_words` meets its contract: each arm is three words of the table. Assumes nothing.
-use mathlib.Core.Path.{_≡_, refl, sym, ap}
+use mathlib.Core.Path.{_≡_, refl}
 use Prim.Native.Nat.{ℕ, _+_}
 use native.Mathlib.Omega.{arith}
 use Rattle.circle.specs.Phase.{wordOf}

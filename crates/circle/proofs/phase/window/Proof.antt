@@ -1,7 +1,6 @@
 -- `circle::phase::window` meets its contract: the three words are the table's, and their digits do not meet. Assumes nothing.
 use borrow.Author.Needs.{needs}
-use mathlib.Core.Path.{_≡_, refl}
-use Prim.Native.Nat.{_+_, _-_, _*_, _/_, _%_, _^_, _<_}
+use mathlib.Core.Path.{refl}
 use native.Mathlib.Nat.{lt-of-le-of-lt, le-of-eq}
 use native.Mathlib.Omega.{arith}
 use Rattle.circle.specs.Phase.{windowOf}
