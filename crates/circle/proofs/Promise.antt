@@ -2,15 +2,18 @@
 use mathlib.Core.Path.{_≡_, sym, subst, _∙_}
 use mathlib.Core.Logic.{inr}
 use mathlib.Core.Bool.{true, false}
-use Prim.Native.Nat.{_*_, _^_, _≤_}
+use Prim.Native.Nat.{ℕ, _+_, _*_, _^_, _≤_, _<_}
+use native.Mathlib.Nat.{mul-pos}
 use native.Mathlib.Omega.{arith}
-use lib.Dec.{T}
+use lib.Dec.{T, lit<, lit≤}
+use lib.Pow.{pow-pos}
 use lib.Ieee.{Float, binary32, fits, le, neg, ofBits}
 use Rattle.units.specs.Units.{mag, P, N, Number}
 use Rattle.units.proofs.Answers.{given, declined}
 use Rattle.units.proofs.Bits.{Is, put-positive}
 use Rattle.units.proofs.Between.{within-size, below-bound, above-bound}
 use Rattle.exact.specs.Circle.{Sine, Cosine}
+use Rattle.exact.proofs.Limits.{near-wider}
 use Rattle.circle.specs.Wave.{sinPiOf, cosPiOf, sinOf, cosOf}
 use Rattle.circle.specs.Promise.{waveError, waveUnit, openError, openUnit, Accepts, SinPi, CosPi, Sin, Cos}
 use Rattle.circle.proofs.Near.{less, wave-number, wave-inside, sinPi-is, cosPi-is, sin-is, cos-is, sinPi-near, cosPi-near, sin-near, cos-near}
@@ -84,3 +87,28 @@ module _ (x before : Float) where
 
   pub cos-refused : ¬ Accepts x → Cos x 1 before before
   cos-refused n = record { answers = declined cosOf x before n; near = λ h. absurd (n h); inside = λ h. absurd (n h) }
+
+-- ---- 2 ^ -22, which document 01 asks for, follows
+
+pub sine-as-asked : {p m q a b : ℕ} → Sine p m q a b (2 ^ 149) waveError waveUnit → Sine p m q a b (2 ^ 149) 1 (2 ^ 22)
+sine-as-asked h = record { near = near-wider (lit< tt) (lit≤ tt) (h .near) }
+
+pub cosine-as-asked : {p m q a b : ℕ} → Cosine p m q a b (2 ^ 149) waveError waveUnit → Cosine p m q a b (2 ^ 149) 1 (2 ^ 22)
+cosine-as-asked h = record { near = near-wider (lit< tt) (lit≤ tt) (h .near) }
+
+-- of pi x too, beside what the enclosure leaves open
+module _ (d w : ℕ) (x : Float) (pos : 0 < w) where
+  less-open : openError d w x * (2 ^ 22 * (w * 2 ^ 149)) ≤ (w * 2 ^ 149 + 2 ^ 22 * (d * (2 * mag x))) * openUnit w
+  less-open = through (w * 2 ^ 149) (d * (2 * mag x))
+    where
+      through : (X y : ℕ) → (waveError * X + waveUnit * y) * (2 ^ 22 * X) ≤ (X + 2 ^ 22 * y) * (waveUnit * X)
+      through X y = omega arith
+
+  open-pos : 0 < openUnit w
+  open-pos = mul-pos (lit< tt) (mul-pos pos (pow-pos 149))
+
+  pub sinPi-as-asked : {p m q a b : ℕ} → Sine p m q a b (2 ^ 149) (openError d w x) (openUnit w) → Sine p m q a b (2 ^ 149) (w * 2 ^ 149 + 2 ^ 22 * (d * (2 * mag x))) (2 ^ 22 * (w * 2 ^ 149))
+  sinPi-as-asked h = record { near = near-wider open-pos less-open (h .near) }
+
+  pub cosPi-as-asked : {p m q a b : ℕ} → Cosine p m q a b (2 ^ 149) (openError d w x) (openUnit w) → Cosine p m q a b (2 ^ 149) (w * 2 ^ 149 + 2 ^ 22 * (d * (2 * mag x))) (2 ^ 22 * (w * 2 ^ 149))
+  cosPi-as-asked h = record { near = near-wider open-pos less-open (h .near) }
