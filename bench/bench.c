@@ -29,7 +29,7 @@ enum evenly { OVER_PATTERNS, OVER_VALUES };
 #define UP_TO_ONE {"a from 0 to 1", OVER_VALUES, 0, 1}
 #define EVERY_POWER {"x from -126 to 127", OVER_VALUES, -126, 127}
 #define AROUND_ZERO {"x from -1 to 1", OVER_VALUES, -1, 1}
-#define EVERY_ANGLE {"x from -8192 to 8192", OVER_VALUES, -8192, 8192}
+#define EVERY_ANGLE {"-8192 <= x <= 8192", OVER_VALUES, -8192, 8192}
 
 /* For rivals without a function of pi x; the product is rounded, so theirs are not the sines of pi x. */
 #define PI 3.14159274f
@@ -183,7 +183,7 @@ int main(void)
     puts("glibc's sqrtf is called in the library, whose code is the processor's root instruction;");
     puts("the reciprocal root's rivals are 1.0f / sqrtf(x), which is not always the nearest float;");
     puts("newlib's exp2f without double precision is powf(2, x), its log2f is logf(x) / ln 2, and glibc's two compute");
-    puts("in double precision;");
+    puts("in double precision, as its sinf and cosf do; neither has a function of pi x, so there they take pi * x, rounded;");
     puts("the loudness map's are straightforward C on their log2f, with three logarithms in a call.\n");
     printf("%-16s %-19s %-11s %7s %7s %7s %12s %11s\n", "function", "inputs", "measure", "ours", "newlib", "glibc",
            "newlib/ours", "glibc/ours");

@@ -12,7 +12,7 @@ use Rattle.exact.proofs.Polynomial.{value-odd}
 use Rattle.exact.proofs.Power.{mul-pow}
 use Rattle.fixed.specs.Horner.{alternating}
 use Rattle.fixed.proofs.Alternating.{Close, close-step, signed, loss, falling, alternating-close, alternating-most}
-use Rattle.circle.specs.Kernel.{first, rest, squareOf, slopeOf, quarterSine}
+use Rattle.circle.specs.Kernel.{first, second, rest, squareOf, slopeOf, quarterSine}
 use Rattle.circle.proofs.Method.{D, coefficients, part, part-most}
 
 -- the first coefficient, and the others
@@ -26,7 +26,7 @@ module _ (y e : ℕ) where
   minus-value = omega arith
 
 -- what the floors lose, and the coarser unit of the first coefficient
-losses : (loss D 3 rest .1 + 2 * D + 3 * 0xa55de723 ≤ 6 * D) × (loss D 3 rest .0 ≤ 3 * D)
+losses : (loss D 3 rest .1 + 2 * D + 3 * second ≤ 6 * D) × (loss D 3 rest .0 ≤ 3 * D)
 unfolding loss rest
 losses = (lit≤ tt, lit≤ tt)
 
@@ -67,9 +67,9 @@ module _ (w x d : ℕ) (few : w < D) (pos : 0 < d) (small : x ≤ d) (low : w * 
   abbrev made : ℕ
   made = alternating D rest z
 
-  made-most : made ≤ 0xa55de723
+  made-most : made ≤ second
   unfolding rest
-  made-most = alternating-most D 0xa55de723 _ z
+  made-most = alternating-most D second _ z
 
   made-close : Close D made (e ^ 4) (value 4 (signed true rest) y e) (value 4 (signed false rest) y e) (loss D 3 rest .0) (loss D 3 rest .1)
   made-close = alternating-close D z y e 3 unit square-low square-high (mul-le-mul small small) square-small 4 rest (unfold rest in lit≤ tt) (unfold rest falling in tt)
@@ -87,11 +87,11 @@ module _ (w x d : ℕ) (few : w < D) (pos : 0 < d) (small : x ≤ d) (low : w * 
   unfolding slopeOf
   slope-close =
       widened
-      (close-step D z y e 3 square-low square-high (mul-le-mul small small) 2 first 0xa55de723 q made-close made-most taken (div-mul-le-self (made * z) 8589934592)
+      (close-step D z y e 3 square-low square-high (mul-le-mul small small) 2 first second q made-close made-most taken (div-mul-le-self (made * z) 8589934592)
       (le-of-lt (lt-div-mul-add (lit< tt))))
     where
       widened : Close D (2 * (first - q)) (e ^ 4 * e) (2 * first * (e ^ 4 * e) + y * value 4 (signed false rest) y e) (y * value 4 (signed true rest) y e)
-          (loss D 3 rest .1 + 2 * D + 3 * 0xa55de723) (loss D 3 rest .0) →
+          (loss D 3 rest .1 + 2 * D + 3 * second) (loss D 3 rest .0) →
           Close D (2 * (first - q)) (e ^ 5) (value 5 (signed true coefficients) y e) (value 5 (signed false coefficients) y e) (6 * D) (3 * D)
       widened h = rw (plus-value y e, minus-value y e, pow-suc e 4) (record {
         most = le-trans (h .most) (add-le-add (le-refl _) (mul-le-mul-right (e ^ 4 * e) (losses .0)));

@@ -1,5 +1,5 @@
 -- A quarter of the sine as the program computes it. Definitions only.
--- Proofs outside of proofs/Method.antt and proofs/Rounding.antt cite laws of `quarterSine`, never its text.
+-- Proofs outside of proofs/Method.antt and proofs/Rounding.antt cite laws of `quarterSine`, never its text; only its values at a quarter's ends are computed.
 use mathlib.Core.List.{List, [], _∷_}
 use Prim.Native.Nat.{ℕ, _-_, _*_, _/_}
 use Rattle.fixed.specs.Horner.{alternating}
@@ -10,8 +10,11 @@ abbrev pub first : ℕ
 first = 0xc90fdaa2
 
 -- the others in units of 2 ^ -32
+abbrev pub second : ℕ
+second = 0xa55de723
+
 unfoldable pub rest : List ℕ
-rest = 0xa55de723 ∷ 0x1466bbde ∷ 0x0132d0c8 ∷ 0x000a8033 ∷ 0x0000396a ∷ []
+rest = second ∷ 0x1466bbde ∷ 0x0132d0c8 ∷ 0x000a8033 ∷ 0x0000396a ∷ []
 
 -- the square of t = w / 2 ^ 32, in units of 2 ^ -32, cut off
 abbrev pub squareOf : ℕ → ℕ

@@ -1,7 +1,7 @@
 -- Laws of a polynomial's value: it depends on the fraction x / d alone, and goes with the coefficients.
 use mathlib.Core.Path.{_≡_, refl}
 use mathlib.Core.List.{List, [], _∷_}
-use Prim.Native.Nat.{ℕ, zero, suc, _+_, _*_, _^_, _≤_, suc-le-suc}
+use Prim.Native.Nat.{ℕ, zero, suc, _+_, _*_, _^_, _≤_}
 use native.Mathlib.Nat.{pow-zero, pow-suc, le-of-suc-le-suc}
 use native.Mathlib.Omega.{arith}
 use lib.ListN.{length}
@@ -31,14 +31,6 @@ spread [] = []
 spread (c ∷ []) = c ∷ []
 spread (c ∷ b ∷ cs) = c ∷ 0 ∷ spread (b ∷ cs)
 
--- its length
-length-spread : (n : ℕ) (cs : List ℕ) → length cs ≤ suc n → length (spread cs) ≤ suc (n + n)
-unfolding spread
-length-spread n [] fits = omega arith
-length-spread n (c ∷ []) fits = omega arith
-length-spread zero (c ∷ b ∷ cs) fits = absurd (omega arith)
-length-spread (suc n) (c ∷ b ∷ cs) fits = omega (arith, length-spread n (b ∷ cs) (le-of-suc-le-suc fits))
-
 -- its value
 value-spread : (n : ℕ) (cs : List ℕ) (x d : ℕ) → length cs ≤ suc n → value (n + n) (spread cs) x d ≡ value n cs (x * x) (d * d)
 unfolding value spread
@@ -56,9 +48,6 @@ value-spread (suc n) (c ∷ b ∷ cs) x d fits =
 -- a polynomial with odd powers alone: the variable times a polynomial in its square
 abbrev pub odd : List ℕ → List ℕ
 odd cs = 0 ∷ spread cs
-
-pub length-odd : (n : ℕ) (cs : List ℕ) → length cs ≤ suc n → length (odd cs) ≤ suc (suc (n + n))
-length-odd n cs fits = suc-le-suc (length-spread n cs fits)
 
 pub value-odd : (n : ℕ) (cs : List ℕ) (x d : ℕ) → length cs ≤ suc n → value (suc (n + n)) (odd cs) x d ≡ x * value n cs (x * x) (d * d)
 unfolding value
