@@ -1,9 +1,10 @@
 -- 2 ^ x in fixed point against the real number 2 ^ x, and its order. Assumes nothing.
 use mathlib.Core.Path.{_≡_, refl, sym}
-use Prim.Native.Nat.{ℕ, _+_, _*_, _%_, _^_, _≤_}
-use native.Mathlib.Nat.{le-trans, le-of-eq, mul-le-mul-left, mul-le-mul-right}
+use Prim.Native.Nat.{ℕ, _+_, _-_, _*_, _/_, _%_, _^_, _≤_}
+use native.Mathlib.Nat.{le-trans, le-of-eq, mul-assoc, mul-le-mul-left, mul-le-mul-right, le-of-mul-le-mul-right, div-mul-le-self}
 use native.Mathlib.Omega.{arith}
 use lib.Dec.{lit<, lit≤}
+use lib.Pow.{pow-pos}
 use lib.Ieee.{Float}
 use Rattle.units.specs.Units.{P, N, Le}
 use Rattle.exact.specs.Power.{AtMost, AtLeast}
@@ -13,7 +14,7 @@ use Rattle.powers.specs.Raised.{raised}
 use Rattle.powers.specs.Exp2.{Accepts, cutOf}
 use Rattle.powers.specs.Fixed.{fixedDigits, fixedExponent, fixedPower, fixedAbove, fixedBelow, FixedExp2}
 use Rattle.powers.proofs.Method.{D, raised-zero, raised-mono, raised-top, raised-rises, raised-most, raised-least}
-use Rattle.powers.proofs.Reduction.{most-uncut, least-uncut, cut-mono}
+use Rattle.powers.proofs.Reduction.{K, most-uncut, least-uncut, cut-mono}
 use Rattle.powers.proofs.Order.{exponentOf, pieces-mono}
 
 -- what is raised is at least 1
@@ -67,7 +68,25 @@ powers-mono : (x x′ : Float) → Le x′ x → fixedPower x′ ≤ fixedPower 
 unfolding fixedDigits fixedExponent
 powers-mono x x′ l = pieces-mono raised D (λ f g k. raised-mono k) raised-first raised-top (cutOf x) (cutOf x′) (cut-mono x x′ l)
 
--- the whole promise of 2 ^ x in fixed point
+-- ---- the range of the exponents
+
+-- at b or less x has an exponent of at most 126 + b
+pub exponent-most : (x : Float) (b : ℕ) → P x ≤ b * 2 ^ 149 → fixedExponent x ≤ 126 + b
+unfolding fixedExponent cutOf
+exponent-most x b h = within (P x / K) (N x / K) (le-of-mul-le-mul-right (le-trans (div-mul-le-self (P x) K) (le-trans h (le-of-eq (sym (mul-assoc b D K))))) (pow-pos 117))
+  where
+    within : (p n : ℕ) → p ≤ b * D → (126 * D + p - n) / D ≤ 126 + b
+    within p n l = omega arith
+
+-- at -b or more one of at least 126 - b
+pub exponent-least : (x : Float) (b : ℕ) → N x ≤ b * 2 ^ 149 → 126 - b ≤ fixedExponent x
+unfolding fixedExponent cutOf
+exponent-least x b h = within (P x / K) (N x / K) (le-of-mul-le-mul-right (le-trans (div-mul-le-self (N x) K) (le-trans h (le-of-eq (sym (mul-assoc b D K))))) (pow-pos 117))
+  where
+    within : (p n : ℕ) → n ≤ b * D → 126 - b ≤ (126 * D + p - n) / D
+    within p n l = omega arith
+
+-- ---- the whole promise of 2 ^ x in fixed point
 pub fixed : (x : Float) → Accepts x → FixedExp2 x (fixedDigits x) (fixedExponent x)
 unfolding fixedDigits fixedExponent
 fixed x a = record {

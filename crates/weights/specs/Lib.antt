@@ -1,0 +1,2 @@
+pub mod Softmax
+pub mod Weight
