@@ -1,5 +1,5 @@
 -- Sums of families of whole numbers. Assumes nothing.
-use mathlib.Core.Path.{_≡_}
+use mathlib.Core.Path.{_≡_, refl, ap₂}
 use mathlib.Core.Logic.{inl, inr}
 use Prim.Native.Nat.{ℕ, zero, suc, _+_, _*_, _≤_, _<_}
 use native.Mathlib.Nat.{le-trans}
@@ -28,3 +28,9 @@ member f (suc n) j h = elim (le-or-lt n j) [
   | inl l ↦ let e : j ≡ n = omega arith in rw e (omega arith)
   | inr l ↦ le-trans (member f n j l) (omega arith)
 ]
+
+-- families with the same members have the same sum
+pub sum-same : (f g : ℕ → ℕ) (n : ℕ) → ((j : ℕ) → j < n → f j ≡ g j) → sum f n ≡ sum g n
+unfolding sum
+sum-same f g zero h = refl
+sum-same f g (suc n) h = ap₂ (λ (a b : ℕ). a + b) (sum-same f g n (λ j l. h j (omega arith))) (h n (omega arith))

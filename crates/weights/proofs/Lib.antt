@@ -5,3 +5,4 @@ pub mod Aligning
 pub mod Inverting
 pub mod Rounding
 pub mod Quotient
+pub mod Promise
