@@ -27,8 +27,7 @@ module _ (low high x : Float) (L H : ℕ) (l : Is low false L) (h : Is high fals
   -- both tests passed
   pub between : T (fits binary32 x) → le (neg low) x ≡ true → le x high ≡ true → Number x × (N x ≤ L) × (P x ≤ H)
   between f a b =
-      let n : Number x = record { fits32 = f; is-finite = finite-between (neg low) x high (bottom-number .is-finite) (h .number .is-finite) a b } in
-      (
+      let n : Number x = record { fits32 = f; is-finite = finite-between (neg low) x high (bottom-number .is-finite) (h .number .is-finite) a b } in (
         n,
         at-least (P x) (N x) (P (neg low)) (N (neg low)) (one-sided x) (bottom-units .0) (bottom-units .1) (le-true (neg low) x bottom-number n a),
         at-most (P x) (N x) (P high) (N high) (one-sided x) (top-units .0) (top-units .1) (le-true x high n (h .number) b),

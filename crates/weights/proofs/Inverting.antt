@@ -2,9 +2,9 @@
 use mathlib.Core.Path.{_≡_, sym, ap, _∙_}
 use mathlib.Core.Logic.{inl, inr}
 use Prim.Native.Nat.{ℕ, _+_, _-_, _*_, _/_, _^_, _≤_, _<_}
-use native.Mathlib.Nat.{le-trans, mul-assoc, mul-le-mul-left, mul-le-mul-right, div-mul-le-self, lt-div-mul-add}
+use native.Mathlib.Nat.{mul-le-mul-right, div-mul-le-self, lt-div-mul-add}
 use native.Mathlib.Omega.{arith}
-use lib.Pow.{pow-pos, pow-add}
+use lib.Pow.{pow-add}
 use Rattle.units.proofs.Naturals.{le-or-lt}
 use Rattle.weights.specs.Weight.{Aligned, Reciprocal, Inverse}
 

@@ -6,3 +6,4 @@ pub mod Inverting
 pub mod Rounding
 pub mod Quotient
 pub mod Promise
+pub mod Asked

@@ -2,11 +2,11 @@
 use mathlib.Core.Path.{_≡_, refl, sym, subst}
 use mathlib.Core.List.{List}
 use mathlib.Core.Bool.{true, false}
-use Prim.Native.Nat.{ℕ, _+_, _≤_, _<_}
+use Prim.Native.Nat.{ℕ, _+_, _<_}
 use native.Mathlib.Omega.{arith}
 use lib.ListN.{length}
 use lib.Ieee.{Float, lt}
-use Rattle.units.specs.Units.{P, N, Number, Le}
+use Rattle.units.specs.Units.{Number, Le}
 use Rattle.units.proofs.Order.{lt-true, lt-false}
 use borrow.Author.Count.{below-more}
 use Rattle.weights.specs.Softmax.{at, Elements}

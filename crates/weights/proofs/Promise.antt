@@ -3,7 +3,7 @@ use mathlib.Core.Path.{_≡_, refl, sym, ap, ap₂, subst, _∙_}
 use mathlib.Core.List.{List}
 use mathlib.Core.Bool.{false}
 use Prim.Native.Nat.{ℕ, _+_, _-_, _*_, _^_, _≤_, _<_}
-use native.Mathlib.Nat.{le-trans, le-of-eq, le-antisymm, mul-comm, mul-assoc, mul-right-comm, mul-le-mul-right, le-of-mul-le-mul-right}
+use native.Mathlib.Nat.{le-trans, le-of-eq, le-antisymm, mul-right-comm, mul-le-mul-right, le-of-mul-le-mul-right}
 use native.Mathlib.Omega.{arith}
 use lib.Pow.{pow-pos}
 use lib.ListN.{length}
@@ -12,9 +12,9 @@ use Rattle.units.specs.Units.{P, N, Le}
 use Rattle.units.proofs.Signs.{plus-of, minus-of}
 use Rattle.units.proofs.Bits.{Is}
 use Rattle.exact.proofs.Power.{through-power}
-use Rattle.powers.specs.Fixed.{fixedDigits, fixedExponent, fixedPower, fixedAbove, fixedBelow}
-use Rattle.weights.specs.Softmax.{at, sum, Element, Elements, Lengths, Accepts, Encloses, Near, Whole, Inside, Softmax2, softmaxError, wholeError, softmaxUnit}
-use Rattle.weights.specs.Weight.{powerAt, Scaling, Inverse, AtMostOne, weightBits, weightOf, Weighed}
+use Rattle.powers.specs.Fixed.{fixedDigits, fixedExponent, fixedAbove, fixedBelow}
+use Rattle.weights.specs.Softmax.{at, sum, Elements, Lengths, Accepts, Encloses, Near, Whole, Inside, Softmax2, softmaxError, wholeError, softmaxUnit}
+use Rattle.weights.specs.Weight.{powerAt, Scaling, Inverse, weightBits, weightOf, Weighed}
 use Rattle.weights.proofs.Range.{power-accepts, power}
 use Rattle.weights.proofs.Families.{sum-le, sum-same, member}
 use Rattle.weights.proofs.Rounding.{weightUnits, Placed, placed, units-most, units-least, units-one, weight-is, weight-order}

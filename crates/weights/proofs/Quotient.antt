@@ -1,7 +1,7 @@
 -- The weights u_i of powers t_i, scaled by r and c so that the sum of the powers is 1, against the exact quotient t_i / (sum of t_j), and their sum against 1.
 -- All over any families of whole numbers. Assumes nothing.
 use Prim.Native.Nat.{ℕ, _+_, _-_, _*_, _^_, _≤_, _<_}
-use native.Mathlib.Nat.{le-trans, mul-le-mul-left, mul-le-mul-right, le-of-mul-le-mul-right}
+use native.Mathlib.Nat.{mul-le-mul-left, mul-le-mul-right, le-of-mul-le-mul-right}
 use native.Mathlib.Omega.{arith}
 use lib.Dec.{lit<, lit≤}
 use lib.Pow.{pow-pos, pow-mono}
@@ -69,11 +69,11 @@ module _ (t u : ℕ → ℕ) (n r c : ℕ) (inverse : Inverse (sum t n) r c)
 -- ---- ratios
 
 -- a is at most z / w of b, and b at most z′ / w′ of c
-ratio-trans : (a b c w z w′ z′ : ℕ) → a * w ≤ b * z → b * w′ ≤ c * z′ → a * (w * w′) ≤ c * (z * z′)
+pub ratio-trans : (a b c w z w′ z′ : ℕ) → a * w ≤ b * z → b * w′ ≤ c * z′ → a * (w * w′) ≤ c * (z * z′)
 ratio-trans a b c w z w′ z′ h g = omega (arith, mul-le-mul-right w′ h, mul-le-mul-right z g)
 
 -- and m / k is no less than z / w
-ratio-weaker : (a c w z k m : ℕ) → 0 < z → a * w ≤ c * z → k * z ≤ m * w → k * a ≤ m * c
+pub ratio-weaker : (a c w z k m : ℕ) → 0 < z → a * w ≤ c * z → k * z ≤ m * w → k * a ≤ m * c
 ratio-weaker a c w z k m pos h g = le-of-mul-le-mul-right (through z w h g) pos
   where
     through : (z w : ℕ) → a * w ≤ c * z → k * z ≤ m * w → k * a * z ≤ m * c * z

@@ -1,10 +1,10 @@
 -- One weight: n 2 ^ E times 2 ^ (75 - c) units, for n of 63 or 64 digits, rounded to 24 digits, or cut off to a whole unit where there are no more digits than these.
 -- Its error, its order, and that it is at most 1. Assumes nothing.
-use mathlib.Core.Path.{_≡_, refl, sym, ap, _∙_, subst}
+use mathlib.Core.Path.{_≡_, refl, sym, ap, _∙_}
 use mathlib.Core.Logic.{inl, inr}
 use mathlib.Core.Bool.{false, cond}
 use Prim.Native.Nat.{ℕ, _+_, _-_, _*_, _/_, _^_, _≤_, _<_}
-use native.Mathlib.Nat.{le-trans, le-of-eq, le-of-lt, zero-mul, zero-add, pow-zero, lt-of-le-of-lt, lt-of-lt-of-le, mul-assoc, mul-right-comm, mul-one, mul-pos, mul-le-mul-left, mul-le-mul-right, mul-lt-mul-of-pos-right, le-of-mul-le-mul-right, lt-of-mul-lt-mul-right, div-mul-le-self, lt-div-mul-add, not-le-of-lt}
+use native.Mathlib.Nat.{le-trans, le-of-eq, le-of-lt, zero-mul, zero-add, pow-zero, lt-of-le-of-lt, lt-of-lt-of-le, mul-assoc, mul-right-comm, mul-one, mul-pos, mul-le-mul-left, mul-le-mul-right, mul-lt-mul-of-pos-right, le-of-mul-le-mul-right, lt-of-mul-lt-mul-right, div-mul-le-self, lt-div-mul-add}
 use native.Mathlib.Omega.{arith}
 use lib.Dec.{ltb, lit≤}
 use lib.Pow.{pow-add, pow-pos, pow-mono}
@@ -13,7 +13,7 @@ use lib.Ieee.{binary32, ofBits}
 use Rattle.units.proofs.Naturals.{le-or-lt, pow-back, pow-split}
 use Rattle.units.proofs.Bits.{Is, put-positive}
 use Rattle.fixed.specs.Rounded.{Normal, nearestBits}
-use Rattle.fixed.proofs.Rounding.{unitsOf, near-most, near-least, whole-units, is-positive, units-order, bits-fit}
+use Rattle.fixed.proofs.Rounding.{unitsOf, near-most, near-least, whole-units, is-positive, units-order}
 use Rattle.weights.specs.Weight.{Scaling, AtMostOne, weightBits}
 
 -- the units of the weight
@@ -177,13 +177,6 @@ module _ (n E c : ℕ) (p : Placed n E c) where
   weight-is = elim (le-or-lt e c) [
     | inl h ↦ rw (bits-few h, units-few h) (rw (zero-mul, zero-add, pow-zero, mul-one) at (put-positive (S h) 0 (inl refl) (le-of-lt (few-units h)) (omega (arith, few-units h))))
     | inr h ↦ rw (bits-more h, units-more h) (is-positive n (e - c) (p .most) (normal h))
-  ]
-
-  -- and below the infinity's
-  pub weight-fits : weightBits n e c < 255 * 8388608
-  weight-fits = elim (le-or-lt e c) [
-    | inl h ↦ rw (bits-few h) (omega (arith, few-units h))
-    | inr h ↦ rw (bits-more h) (bits-fit n (e - c) (p .most) (normal h))
   ]
 
 -- ---- order: a larger power, with no smaller exponent, has no smaller weight

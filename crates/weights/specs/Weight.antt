@@ -9,7 +9,7 @@ use lib.Ieee.{Float, binary32, ofBits}
 use Rattle.units.specs.Units.{Le}
 use Rattle.fixed.specs.Rounded.{nearestBits}
 use Rattle.powers.specs.Fixed.{fixedDigits, fixedExponent, fixedPower}
-use Rattle.weights.specs.Softmax.{at, sum, Elements}
+use Rattle.weights.specs.Softmax.{at}
 
 -- the answer to a question
 pub record Tells (Holds : Type 0) (answer : Bool) : Type 0 where

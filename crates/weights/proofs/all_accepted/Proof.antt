@@ -1,6 +1,6 @@
 -- `weights::all_accepted` meets its contract. The loop's invariant: the elements passed are accepted. Assumes nothing.
-use mathlib.Core.Path.{_≡_, sym, _∙_}
-use mathlib.Core.Bool.{true, false, true≢false}
+use mathlib.Core.Path.{sym}
+use mathlib.Core.Bool.{true≢false}
 use Prim.Native.Nat.{ℕ, _-_, _≤_, _<_}
 use native.Mathlib.Nat.{lt-of-lt-of-le}
 use native.Mathlib.Omega.{arith}

@@ -1,6 +1,6 @@
 -- `weights::fill` meets its contract. The loop's invariant: the outputs written are the weights of the elements passed. Assumes nothing.
 use mathlib.Core.Path.{_≡_, refl, sym, _∙_}
-use Prim.Native.Nat.{ℕ, _+_, _-_, _≤_, _<_}
+use Prim.Native.Nat.{ℕ, _-_, _≤_, _<_}
 use native.Mathlib.Nat.{le-trans, lt-of-lt-of-le, le-of-eq, mul-le-mul-right, ne-of-lt}
 use native.Mathlib.Omega.{arith}
 use lib.ListN.{length, set, length-set}
@@ -8,7 +8,7 @@ use lib.Seq.{getD-set-same, getD-set-other}
 use lib.Ieee.{nan}
 use borrow.Author.Count.{below-none, below-more}
 use borrow.Author.Needs.{scaled-fits}
-use Rattle.weights.specs.Softmax.{at, sum}
+use Rattle.weights.specs.Softmax.{at}
 use Rattle.weights.specs.Weight.{powerAt, weightOf}
 use Rattle.weights.proofs.Families.{member}
 use Rattle.weights.proofs.fill.Statement.{statement}
@@ -56,8 +56,7 @@ loop-less c = omega arith
 loop-again : tie.Need-loop-again Inv-loop μ-loop
 loop-again c =
     let l = c .before .before .before in
-    let i = l .loop .i in
-    (
+    let i = l .loop .i in (
       omega arith,
       length-set (l .loop .p) i (c .weight .result) ∙ l .loop .inv .1,
       below-more (λ k. at (set (l .loop .p) i (c .weight .result)) k ≡ weightOf (l .before .before .before .args .r) (l .before .before .before .args .c) (at (l .before .before .before .args .x .now) k)) i

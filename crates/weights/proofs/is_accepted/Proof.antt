@@ -1,5 +1,5 @@
 -- `weights::is_accepted` meets its contract: the two tests are those of an element. Assumes nothing.
-use mathlib.Core.Path.{_≡_, sym, _∙_, subst}
+use mathlib.Core.Path.{sym, _∙_, subst}
 use mathlib.Core.Bool.{true≢false}
 use lib.Dec.{T}
 use Rattle.weights.proofs.Range.{in-range, too-low, too-high}

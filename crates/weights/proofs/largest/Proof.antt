@@ -41,8 +41,7 @@ loop-again c =
     let x = l .before .before .args .x .now in
     let i = l .loop .i in
     let more = c .before .before .loop-test .taken in
-    let all = l .before .before .pre .1 in
-    (
+    let all = l .before .before .pre .1 in (
       omega arith,
       ⊎-elim (λ w. subst (Largest x (i + 1)) (sym (w .1)) (largest-new x i (l .loop .m) more all (l .loop .inv .1) (w .0 .taken)))
           (λ w. subst (Largest x (i + 1)) (sym (w .1)) (largest-old x i (l .loop .m) more all (l .loop .inv .1) (w .0 .left))) (c .if1 .came),

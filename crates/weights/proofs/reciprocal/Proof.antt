@@ -38,8 +38,7 @@ returns c =
     let d = digits c in
     let z = leadingZeros 64 (c .args .s) in
     let few = zeros c in
-    rw (mod-eq-of-lt (d .high))
-    (
+    rw (mod-eq-of-lt (d .high)) (
       record { least = digits-least (c .args .s * 2 ^ z) (d .low) (d .high); most = digits-most (c .args .s * 2 ^ z) (d .low) (d .high); high = omega arith },
       reciprocal-of (c .args .s) z (c .args .e) (c .args .e - z) (d .low) (d .high) (omega arith),
     )

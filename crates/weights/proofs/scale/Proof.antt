@@ -4,11 +4,10 @@ use mathlib.Core.Path.{sym, ap, ap₂, _∙_, subst}
 use Prim.Native.Nat.{ℕ, _*_, _^_, _≤_}
 use native.Mathlib.Nat.{le-trans, le-of-eq, mul-le-mul-right}
 use lib.ListN.{length}
-use lib.Ieee.{Float}
-use Rattle.powers.specs.Fixed.{fixedDigits, fixedExponent, fixedPower}
-use Rattle.weights.specs.Softmax.{Element, sum}
+use Rattle.powers.specs.Fixed.{fixedPower}
+use Rattle.weights.specs.Softmax.{Element}
 use Rattle.weights.specs.Weight.{powerAt}
-use Rattle.weights.proofs.Range.{power-accepts, power, exponent-low, exponent-high}
+use Rattle.weights.proofs.Range.{power-accepts, exponent-low, exponent-high}
 use Rattle.weights.proofs.Families.{member}
 use Rattle.weights.proofs.Aligning.{aligned-many}
 use Rattle.weights.proofs.Inverting.{inverse-of}
@@ -45,8 +44,7 @@ total-requires c κs =
 reciprocal-requires : tie.Need-reciprocal-requires
 reciprocal-requires c κs =
     let t = c .before in
-    let m = t .before .largest .result in
-    (
+    let m = t .before .largest .result in (
       many c,
       le-trans (exponent-low m (top (t .before))) (le-of-eq (sym (t .fixed-exp2 .ensures .exponent))),
       le-trans (le-of-eq (t .fixed-exp2 .ensures .exponent)) (exponent-high m (top (t .before))),

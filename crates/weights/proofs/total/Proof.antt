@@ -55,8 +55,7 @@ loop-again : tie.Need-loop-again Inv-loop μ-loop
 unfolding sum
 loop-again c =
     let l = c .before .before .before in
-    let x = l .before .before .args .x .now in
-    (
+    let x = l .before .before .args .x .now in (
       omega arith,
       subst (λ (n : ℕ). Aligned (sum (powerAt x) n) (l .before .before .args .e) (l .loop .i + 1) (l .loop .s + c .share .result)) (sym (add-one (l .loop .i)))
           (aligned-more (sum (powerAt x) (l .loop .i)) (powerAt x (l .loop .i)) (l .before .before .args .e) (l .loop .i) (l .loop .s) (c .share .result) (l .loop .inv .1) (c .share .ensures)),
