@@ -14,11 +14,14 @@ use Rattle.powers.proofs.fixed_exp2.Tie as tie
 cut-off-requires : tie.Need-cut-off-requires
 cut-off-requires c κs = search needs
 
+cast-raise : tie.Need-cast-raise
+cast-raise c = search needs
+
 raise-requires : tie.Need-raise-requires
 raise-requires c κs = search needs
 
-cast-t6 : tie.Need-cast-t6
-cast-t6 c = omega (arith, le-trans (le-of-eq (c .before .cut-off .ensures)) (cut-top (c .before .before .args .x) (c .before .before .pre)))
+cast-t7 : tie.Need-cast-t7
+cast-t7 c = omega (arith, le-trans (le-of-eq (c .before .cut-off .ensures)) (cut-top (c .before .before .args .x) (c .before .before .pre)))
 
 returns : tie.Need-returns
 unfolding fixedDigits fixedExponent
@@ -28,4 +31,4 @@ returns c =
     subst₂ (λ (r e : ℕ). FixedExp2 x r e) (ap (λ (X : ℕ). raised (X % 2 ^ 32)) cut ∙ sym (c .raise .ensures)) (ap (λ (X : ℕ). X / 2 ^ 32) cut) (fixed x (c .before .before .pre))
 
 pub fixed-exp2-spec : {M : Type 1} → statement M
-fixed-exp2-spec = tie.close (tie.spec cut-off-requires raise-requires cast-t6 returns)
+fixed-exp2-spec = tie.close (tie.spec cut-off-requires cast-raise raise-requires cast-t7 returns)
