@@ -63,9 +63,10 @@ fn total(x: &[f32], e: u32) -> u64
     requires { ⌜ Elements (now x) × (length (now x) ≤ 1024) × ((i : ℕ) → i < length (now x) → fixedExponent (at (now x) i) ≤ e) ⌝ }
     ensures { λ s. ⌜ Aligned (sum (powerAt (now (x .entry))) (length (now (x .entry)))) e (length (now (x .entry))) s ⌝ }
 {
+    let n = x.len();
     let mut s = 0;
     let mut i = 0;
-    while i < x.len() {
+    while i < n {
         s += share(x[i], e);
         i += 1;
     }

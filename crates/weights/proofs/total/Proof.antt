@@ -15,10 +15,10 @@ use Rattle.weights.proofs.total.Statement.{statement}
 use Rattle.weights.proofs.total.Tie as tie
 
 abbrev Inv-loop : tie.InvT-loop
-Inv-loop x e s₀ i₀ s i = (i ≤ length x) × Aligned (sum (powerAt x) i) e i s
+Inv-loop x e n₀ s₀ i₀ s i = (i ≤ length x) × Aligned (sum (powerAt x) i) e i s
 
 abbrev μ-loop : tie.MeasureT-loop
-μ-loop x e s₀ i₀ s i = length x - i
+μ-loop x e n₀ s₀ i₀ s i = length x - i
 
 loop-holds : tie.Need-loop-holds Inv-loop μ-loop
 unfolding sum
