@@ -77,6 +77,16 @@ fn sum(a: u32, b: u32, c: u32, d: u32) {
     show(b"sum ", a, code, r);
 }
 
+// The weights of four numbers; each place of the output held 7 before the call.
+fn softmax(a: u32, b: u32, c: u32, d: u32) {
+    let mut p = [7.0, 7.0, 7.0, 7.0];
+    let code = earmath::ear_softmax2(&[float(a), float(b), float(c), float(d)], &mut p);
+    show(b"softmax ", a, code, p[0]);
+    show(b"softmax ", b, code, p[1]);
+    show(b"softmax ", c, code, p[2]);
+    show(b"softmax ", d, code, p[3]);
+}
+
 fn both(b: u32) {
     root(b);
     reciprocal(b);
@@ -153,6 +163,13 @@ fn sums() {
     sum(0x7f7f_ffff, 0x7f7f_ffff, 0xff7f_ffff, 0xff7f_ffff);
 }
 
+fn weights() {
+    // (0, 1, 2, -3.5); four equal ones, which get a quarter each; then a NaN at the end
+    softmax(0x0000_0000, 0x3f80_0000, 0x4000_0000, 0xc060_0000);
+    softmax(0x4280_0000, 0x4280_0000, 0x4280_0000, 0x4280_0000);
+    softmax(0x0000_0000, 0x3f80_0000, 0x4000_0000, 0x7fc0_0000);
+}
+
 fn steps() {
     // at and below b, the middle of the logarithms, at m, both zeros; then what is refused: above 1, below 0, a NaN
     loudness(0x3b80_0000);
@@ -171,5 +188,6 @@ fn main() {
     powers();
     logarithms();
     sums();
+    weights();
     steps();
 }
