@@ -1,8 +1,9 @@
-# make         proves and builds build/libearmath.a, then compiles and runs the example
+# make         proves and builds build/libearmath.a and the program build/earmath, then compiles and runs the example
 # make test    the gate, .ci/run: all proofs, and the tests of the archive from C
 # make every   all 2^32 patterns through each function of one argument, ONLY=ear_exp2 for one of
 #              them, and all floats of three channels through the loudness map (some minutes)
-# make bench   speed beside newlib's and glibc's functions, and beside a loop in C
+# make others  all 2^32 patterns through newlib's and glibc's functions, judged as ours are (some minutes)
+# make bench   speed beside newlib's and glibc's functions, and beside a loop in C; writes docs/bench.txt
 # make times   seconds and peak memory of each crate's check
 
 CC = cc
@@ -16,16 +17,17 @@ MAP_HARNESS = tests/exact_map.c tests/map_judge.c tests/map_survey.c
 HEADERS = include/earmath.h $(wildcard tests/*.h)
 CRATES = crates.txt $(shell find crates -type f)
 
-.PHONY: all test tests every bench times clean tools-for-make mpfr
+.PHONY: all test tests every others bench times clean tools-for-make mpfr
 .DELETE_ON_ERROR:
 
-all: build/roots build/growth.svg
+all: build/roots build/growth.svg build/earmath
 	@echo "The library is proved and built: $(LIBRARY). The example examples/roots.c, linked with it, says:"
 	@echo
 	@build/roots
 	@echo
 	@echo "So results are the nearest floats, and what has no result is refused with nothing written."
 	@echo "A channel's loudness map is drawn in build/growth.svg; build/growth prints it, for any channel."
+	@echo "Any value can be asked for by bit patterns: build/earmath exp2 40490fdb says $$(build/earmath exp2 40490fdb)."
 
 test:
 	@.ci/run
@@ -35,6 +37,17 @@ tests: $(TESTS:%=build/tests/%)
 every: build/tests/every build/tests/loudness_every
 	build/tests/every $(ONLY)
 	$(if $(ONLY),,build/tests/loudness_every)
+
+# They keep fewer promises, so that the verdict is a failure here: what counts is the table.
+others: build/others
+	-build/others $(ONLY)
+
+build/newlib/newlib.o: bench/newlib
+	bench/newlib
+
+build/others: tests/every.c $(HARNESS) $(HEADERS) $(LIBRARY) build/newlib/newlib.o
+	$(CC) -std=c11 -D_POSIX_C_SOURCE=200809L $(CFLAGS) -fno-builtin -pthread -Iinclude '-DTABLE="others.h"' $< $(HARNESS) \
+		build/newlib/newlib.o $(LIBRARY) -lm -o $@
 
 bench: $(LIBRARY)
 	bench/run
@@ -58,6 +71,11 @@ $(LIBRARY): $(CRATES) | tools-for-make
 	rt staticlib earmath
 	@mkdir -p build
 	cp target/staticlib/libearmath.a $@
+
+build/earmath: $(CRATES) | tools-for-make
+	rt check ear
+	@mkdir -p build
+	cp target/bin/ear $@
 
 # The examples are plain C99, as the header is.
 build/roots build/growth: build/%: examples/%.c include/earmath.h $(LIBRARY)

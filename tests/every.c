@@ -1,14 +1,20 @@
 /*
  * Every one of the 2^32 patterns through every function of one argument, or
  * through those that are named on the command line. Patterns are taken in the
- * order of their values, so that order is judged across the whole range.
+ * order of their values, so that order is judged across the whole range. Built
+ * with the table others.h it judges and measures other libraries' functions in
+ * the same way.
  */
 #include <inttypes.h>
 #include <stdio.h>
 #include <string.h>
 
+#ifndef TABLE
+#define TABLE "functions.h"
+#endif
+
 #include "blocks.h"
-#include "functions.h"
+#include TABLE
 #include "report.h"
 
 struct worst {
@@ -87,13 +93,10 @@ static void say(const struct share *s)
     group(t->accepted + t->refused == UINT64_C(1) << 32,
           "%s: all 2^32 patterns, %" PRIu64 " accepted, %" PRIu64 " refused", name, t->accepted, t->refused);
     group_faults(s->f, t);
-    printf("      %s: worst error %.6f ulp at %08" PRIx32 ", relative 2^%.3f at %08" PRIx32 ", absolute 2^%.3f at %08" PRIx32
-           "\n", name, s->ulps.error, s->ulps.at, log2(s->relative.error), s->relative.at, log2(s->absolute.error),
-           s->absolute.at);
     fflush(stdout); /* in a log, before the next function's progress */
 }
 
-static void every(const struct function *f)
+static struct share every(const struct function *f)
 {
     struct share shares[MOST_THREADS];
     for (int i = 0; i < threads(); i++)
@@ -102,6 +105,25 @@ static void every(const struct function *f)
     for (int i = 1; i < threads(); i++)
         add(&shares[0], &shares[i]);
     say(&shares[0]);
+    return shares[0];
+}
+
+/* The worst errors in powers of two, each with its input's pattern. */
+static void table(const struct share *shares, int count)
+{
+    printf("\n%-15s %-17s %-19s %-19s %12s %13s\n", "worst error", "in ulp, at", "relative, at", "absolute, at",
+           "beyond bound", "order broken");
+    for (int i = 0; i < count; i++) {
+        const struct share *s = &shares[i];
+        printf("%-15s %.4f %08" PRIx32 "   2^%-8.3f %08" PRIx32 " 2^%-8.3f %08" PRIx32 " %12" PRIu64, s->f->name,
+               s->ulps.error, s->ulps.at, log2(s->relative.error), s->relative.at, log2(s->absolute.error), s->absolute.at,
+               s->tally.seen[WRONG_VALUE]);
+        if (s->f->order == ANY_ORDER)
+            printf(" %13s\n", "-");
+        else
+            printf(" %13" PRIu64 "\n", s->tally.seen[OUT_OF_ORDER]);
+    }
+    putchar('\n');
 }
 
 static bool named(const struct function *f, int count, char **names)
@@ -114,8 +136,11 @@ static bool named(const struct function *f, int count, char **names)
 
 int main(int count, char **words)
 {
+    struct share shares[FUNCTIONS];
+    int done = 0;
     for (int i = 0; i < FUNCTIONS; i++)
         if (named(&functions[i], count - 1, words + 1))
-            every(&functions[i]);
+            shares[done++] = every(&functions[i]);
+    table(shares, done);
     return verdict();
 }

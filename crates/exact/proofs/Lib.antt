@@ -9,3 +9,15 @@ pub mod Tight
 pub mod Near
 pub mod Logarithm
 pub mod Ratio
+pub mod Series
+pub mod Binomial
+pub mod Addition
+pub mod Within
+pub mod Rotation
+pub mod Limits
+pub mod Early
+pub mod Round
+pub mod Shift
+pub mod Quarter
+pub mod Turns
+pub mod Zero

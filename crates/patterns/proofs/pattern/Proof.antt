@@ -1,12 +1,12 @@
--- `vectors::pattern` is safe: a float that equals itself is no NaN. Assumes nothing.
+-- `patterns::pattern` is safe: a float that equals itself is no NaN. Assumes nothing.
 use borrow.Author.Needs.{needs}
 use mathlib.Core.Path.{_≡_, sym, _∙_}
 use mathlib.Core.Bool.{false, not, true≢false}
 use lib.Dec.{T}
 use lib.Ieee.{Float, nan, inf, fin, ne, isNan}
 use lib.Ieee.Compare.{nan-differs}
-use Rattle.vectors.proofs.pattern.Statement.{statement}
-use Rattle.vectors.proofs.pattern.Tie as tie
+use Rattle.patterns.proofs.pattern.Statement.{statement}
+use Rattle.patterns.proofs.pattern.Tie as tie
 
 equal-to-itself : (x : Float) → ne x x ≡ false → T (not (isNan x))
 unfolding isNan

@@ -1,4 +1,4 @@
--- `vectors::float` is safe: a pattern that is no NaN's is read. Assumes nothing.
+-- `patterns::float` is safe: a pattern that is no NaN's is read. Assumes nothing.
 use borrow.Author.Needs.{needs}
 use borrow.Author.Tests.{le-ltb}
 use mathlib.Core.Path.{sym, _∙_, subst}
@@ -7,8 +7,8 @@ use lib.Dec.{T}
 use Prim.Native.Nat.{_%_}
 use lib.Ieee.{binary32}
 use lib.Ieee.Bits.{nanBits-above}
-use Rattle.vectors.proofs.float.Statement.{statement}
-use Rattle.vectors.proofs.float.Tie as tie
+use Rattle.patterns.proofs.float.Statement.{statement}
+use Rattle.patterns.proofs.float.Tie as tie
 
 returns : tie.Need-returns
 returns c = search needs
