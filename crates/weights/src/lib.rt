@@ -100,7 +100,7 @@ fn scale(x: &[f32]) -> Factor
     reciprocal(total(x, t.e), t.e)
 }
 
-// The power of x times the scale, rounded once; below 2^-125 it has 24 digits at most, and is cut off to a multiple of the least float.
+// The power of x times the scale, n * 2^(e - 40 - c) least floats, rounded once; below 2^-125 there are 24 digits at most, and the rest is cut off.
 fn weight(x: f32, r: u64, c: u32) -> f32
     requires { ⌜ Element x × Scaling r c × AtMostOne (fixedPower x) r c ⌝ }
     ensures { λ p. ⌜ p ≡ weightOf r c x ⌝ }
