@@ -25,15 +25,15 @@ unfolding sum
 loop-holds c = (omega arith, aligned-none (c .before .args .e))
 
 mul-share : tie.Need-mul-share Inv-loop μ-loop
-mul-share c = scaled-fits (c .before .loop .i) (length (c .before .before .before .args .x .now)) 4 (c .loop-test .taken) (c .before .before .before .good .0 .1)
+mul-share c = scaled-fits (c .before .loop .i) (length (c .before .before .before .args .x .now)) 4 (omega (arith, c .loop-test .taken)) (c .before .before .before .good .0 .1)
 
 shared-slice-read-share : tie.Need-shared-slice-read-share Inv-loop μ-loop
-shared-slice-read-share c = c .before .loop-test .taken
+shared-slice-read-share c = omega (arith, c .before .loop-test .taken)
 
 share-requires : tie.Need-share-requires Inv-loop μ-loop
 share-requires c κs =
     let l = c .before .before in
-    let more = c .before .loop-test .taken in
+    let more : l .loop .i < length (l .before .before .args .x .now) = omega (arith, c .before .loop-test .taken) in
     (l .before .before .pre .0 .each (l .loop .i) more, l .before .before .pre .2 (l .loop .i) more)
 
 -- 1,024 of them fit a word
@@ -43,7 +43,7 @@ room s s′ i n h g l k = omega arith
 add-s : tie.Need-add-s Inv-loop μ-loop
 add-s c =
     let l = c .before .before .before in
-    room (l .loop .s) (c .share .result) (l .loop .i) (length (l .before .before .args .x .now)) (l .loop .inv .1 .small) (c .share .ensures .small) (c .before .before .loop-test .taken) (l .before .before .pre .1)
+    room (l .loop .s) (c .share .result) (l .loop .i) (length (l .before .before .args .x .now)) (l .loop .inv .1 .small) (c .share .ensures .small) (omega (arith, c .before .before .loop-test .taken)) (l .before .before .pre .1)
 
 add-i : tie.Need-add-i Inv-loop μ-loop
 add-i c = omega arith
