@@ -9,7 +9,7 @@
 CC = cc
 CFLAGS = -O2 -Wall -Wextra
 LIBRARY = build/libearmath.a
-TESTS = values refusals spread wrong dot loudness loudness_wrong
+TESTS = values refusals spread wrong dot softmax loudness loudness_wrong
 
 HARNESS = tests/blocks.c tests/dots.c tests/exact.c tests/judge.c tests/nearest.c tests/report.c tests/survey.c
 MAP_TESTS = build/tests/loudness build/tests/loudness_wrong build/tests/loudness_every
@@ -84,10 +84,13 @@ build/roots build/growth: build/%: examples/%.c include/earmath.h $(LIBRARY)
 build/growth.svg: build/growth
 	build/growth --svg >$@
 
-# The loudness map is tested against exact arithmetic.
+# The loudness map and softmax are tested against exact arithmetic.
 $(MAP_TESTS): HARNESS += $(MAP_HARNESS)
-$(MAP_TESTS): LIBRARIES = -lmpfr -lgmp
-$(MAP_TESTS): $(MAP_HARNESS) | mpfr
+$(MAP_TESTS): $(MAP_HARNESS)
+build/tests/softmax: HARNESS += tests/softmaxes.c
+build/tests/softmax: tests/softmaxes.c
+$(MAP_TESTS) build/tests/softmax: LIBRARIES = -lmpfr -lgmp
+$(MAP_TESTS) build/tests/softmax: | mpfr
 
 build/tests/%: tests/%.c $(HARNESS) $(HEADERS) $(LIBRARY)
 	@mkdir -p $(@D)

@@ -131,6 +131,27 @@ uint32_t ear_cos(float x, float *out);
 uint32_t ear_dot(const float *a, size_t na, const float *b, size_t nb, float *out);
 
 /*
+ * Softmax, base two: p[i] is 2^x[i] over the sum of 2^x[j] for all j, for lists
+ * of nx and np floats.
+ *
+ * Accepts: nx = np = n, 1 <= n <= 1,024, and every x[i] from -64 to 64.
+ * Result:  with q[i] for the real quotient,
+ *          (1 - e) q[i] - 2^-149 <= p[i] <= (1 + e) q[i], e = 273 * 2^-32,
+ *          which is 2^-23.9. Every p[i] is from 0 to 1, and the exact sum of
+ *          all of them is within 263 * 2^-32 of 1. So rel 2^-13 where q[i] is
+ *          at least 2^-100, abs 2^-100 elsewhere and 2^-13 for the sum are kept.
+ * Order:   x[i] <= x[j] gives p[i] <= p[j], and equal inputs get the same float.
+ * Refuses: with the first of these codes that applies; the whole list p stays as
+ *          it was, since nothing is written before every input was judged.
+ *          EAR_BAD_LENGTH where nx and np differ, are 0 or above 1,024;
+ *          EAR_OUT_OF_RANGE where an element is a NaN, below -64 or above 64.
+ *
+ * x and p must be valid, aligned pointers to nx and np floats, and the two lists
+ * may not overlap.
+ */
+uint32_t ear_softmax2(const float *x, size_t nx, float *p, size_t np);
+
+/*
  * The loudness map: from the envelope of one channel to a whole current step.
  *
  * The channel: b and m are envelope levels, t and c current steps: up to b the

@@ -11,7 +11,7 @@ use lib.Ieee.{Float, binary32, fits, le, neg, ofBits}
 use Rattle.units.specs.Units.{mag, P, N, Number}
 use Rattle.units.proofs.Answers.{given, declined}
 use Rattle.units.proofs.Bits.{Is, put-positive}
-use Rattle.units.proofs.Between.{within-size, below-bound, above-bound}
+use Rattle.units.proofs.Between.{between, not-below, not-above}
 use Rattle.exact.specs.Circle.{Sine, Cosine}
 use Rattle.exact.proofs.Limits.{near-wider}
 use Rattle.circle.specs.Wave.{sinPiOf, cosPiOf, sinOf, cosOf}
@@ -31,15 +31,15 @@ top-is = put-positive 0x800000 139 (inr (omega arith)) (omega arith) (omega arit
 module _ (x : Float) where
   -- both tests passed
   pub in-range : T (fits binary32 x) → le (neg top) x ≡ true → le x top ≡ true → Accepts x
-  in-range f a b = let (n, l) = within-size top x (8192 * 2 ^ 149) top-is f a b in record { number = n; size = l }
+  in-range f a b = let (n, l, h) = between top top x (8192 * 2 ^ 149) (8192 * 2 ^ 149) top-is top-is f a b in record { number = n; at-least = l; at-most = h }
 
   -- the first failed
   pub too-low : le (neg top) x ≡ false → ¬ Accepts x
-  too-low e a = below-bound top x (8192 * 2 ^ 149) top-is (a .number) (a .size) e
+  too-low e a = not-below top top x (8192 * 2 ^ 149) (8192 * 2 ^ 149) top-is top-is (a .number) (a .at-least) e
 
   -- the second failed
   pub too-high : le x top ≡ false → ¬ Accepts x
-  too-high e a = above-bound top x (8192 * 2 ^ 149) top-is (a .number) (a .size) e
+  too-high e a = not-above top top x (8192 * 2 ^ 149) (8192 * 2 ^ 149) top-is top-is (a .number) (a .at-most) e
 
 -- ---- sin (pi x)
 module _ (x before : Float) where

@@ -20,12 +20,14 @@ module _ (m e : ℕ) (few : m < 2 ^ 24) where
       let under : m * 2 ^ e < 2 ^ 87 = lt-of-lt-of-le (mul-lt-mul-of-pos-right few (pow-pos e)) (le-trans (le-of-eq (sym (pow-add 2 24 e))) (pow-mono least)) in
       sym (ap (λ (n : ℕ). n % 2 ^ 64) (div-eq-of-lt under) ∙ mod-eq-of-lt (pow-pos 64))
 
-  -- below it they are shifted right
-  pub shifted-right : e < 87 → m / 2 ^ (87 - e) ≡ shifted
-  shifted-right h =
-      let place = power (87 - e) e 87 (omega arith) in
-      let small : m / 2 ^ (87 - e) < 2 ^ 64 = lt-of-le-of-lt (div-le-self m (2 ^ (87 - e))) (lt-of-lt-of-le few (pow-mono {i = 24} {j = 64} (omega arith))) in
-      sym (ap (λ (n : ℕ). m * 2 ^ e / n % 2 ^ 64) place ∙ ap (λ (n : ℕ). n % 2 ^ 64) (mul-div-mul-right m (2 ^ (87 - e)) (pow-pos e)) ∙ mod-eq-of-lt small)
+  -- below it they are shifted left by as much less, and 24 of them are cut off
+  pub shifted-right : 63 ≤ e → e < 87 → m * 2 ^ (e - 63) % 2 ^ 64 / 16777216 ≡ shifted
+  shifted-right l h =
+      let least : 24 + (e - 63) ≤ 64 = omega arith in
+      let fits : m * 2 ^ (e - 63) < 2 ^ 64 = lt-of-lt-of-le (mul-lt-mul-of-pos-right few (pow-pos (e - 63))) (le-trans (le-of-eq (sym (pow-add 2 24 (e - 63)))) (pow-mono least)) in
+      let small : m * 2 ^ (e - 63) / 2 ^ 24 < 2 ^ 64 = lt-of-le-of-lt (div-le-self (m * 2 ^ (e - 63)) (2 ^ 24)) fits in
+      let place : m * 2 ^ e ≡ m * 2 ^ (e - 63) * 2 ^ 63 = ap (λ (n : ℕ). m * n) (power (e - 63) 63 e (omega arith)) ∙ sym (mul-assoc m (2 ^ (e - 63)) (2 ^ 63)) in
+      ap (λ (n : ℕ). n / 2 ^ 24) (mod-eq-of-lt fits) ∙ sym (ap (λ (n : ℕ). n / 2 ^ 87 % 2 ^ 64) place ∙ ap (λ (n : ℕ). n % 2 ^ 64) (mul-div-mul-right (m * 2 ^ (e - 63)) (2 ^ 24) (pow-pos 63)) ∙ mod-eq-of-lt small)
 
   left : 87 ≤ e → m * 2 ^ e / 2 ^ 87 ≡ m * 2 ^ (e - 87)
   left h =

@@ -8,6 +8,7 @@ use lib.Dec.{lit≤}
 use lib.Pow.{pow-add, pow-pos, pow-mono}
 use lib.Ieee.{Float, binary32, toBits}
 use Rattle.units.specs.Units.{mag, Number}
+use Rattle.units.proofs.Signs.{sides}
 use Rattle.units.proofs.Naturals.{le-or-lt, pow-back}
 use Rattle.exact.proofs.Limits.{Both}
 use Rattle.fixed.proofs.Either.{Normal, Subnormal, size-bits}
@@ -50,6 +51,10 @@ module _ (x : Float) (a : Accepts x) where
   abbrev b : ℕ
   b = sizeBits x
 
+  -- the size, on either side of zero
+  size-most : mag x ≤ 8192 * 2 ^ 149
+  size-most = elim (sides x) [ inl h ↦ le-trans (le-of-eq (sym (h .0))) (a .at-most) | inr h ↦ le-trans (le-of-eq (sym (h .1))) (a .at-least) ]
+
   -- the exponent of a size up to 8192
   low-exponent : exponent b ≤ 140
   low-exponent = go (size-bits x (a .number))
@@ -57,7 +62,7 @@ module _ (x : Float) (a : Accepts x) where
       go : Normal x b ⊎ Subnormal x b → exponent b ≤ 140
       go (inr s) = rw (s .none) (omega arith)
       go (inl n) =
-          let l : 2 ^ (23 + exponent b) ≤ 2 ^ 163 = le-trans (le-of-eq (pow-add 2 23 (exponent b))) (le-trans (mul-le-mul-right (2 ^ exponent b) (least b)) (le-trans (le-of-eq (sym (n .units))) (mul-le-mul-left 2 (a .size)))) in
+          let l : 2 ^ (23 + exponent b) ≤ 2 ^ 163 = le-trans (le-of-eq (pow-add 2 23 (exponent b))) (le-trans (mul-le-mul-right (2 ^ exponent b) (least b)) (le-trans (le-of-eq (sym (n .units))) (mul-le-mul-left 2 size-most))) in
           let e = pow-back (23 + exponent b) 163 l in
           omega arith
         where

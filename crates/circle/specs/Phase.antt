@@ -23,7 +23,7 @@ wordOf j = getD words j 0
 
 -- the 64 of them from the i-th on, so up to the i-th after the point
 unfoldable pub windowOf : ℕ → ℕ
-windowOf i = (wordOf (i / 32) * 4294967296 + wordOf (i / 32 + 1)) * 2 ^ (i % 32) % 2 ^ 64 + wordOf (i / 32 + 2) / 2 ^ (32 - i % 32)
+windowOf i = (wordOf (i / 32) * 4294967296 + wordOf (i / 32 + 1)) * 2 ^ (i % 32) % 2 ^ 64 + wordOf (i / 32 + 2) * 2 ^ (i % 32) / 4294967296
 
 -- the size itself as an angle: its digits times the window at its exponent
 unfoldable pub radians : ℕ → ℕ

@@ -21,7 +21,8 @@ waveUnit = 2 ^ 29
 -- accepted by sin x and cos x: the finite floats from -8192 to 8192
 pub record Accepts (x : Float) : Type 0 where
   pub number : Number x
-  pub size : mag x ≤ 8192 * 2 ^ 149
+  pub at-least : N x ≤ 8192 * 2 ^ 149
+  pub at-most : P x ≤ 8192 * 2 ^ 149
 
 -- pi x is 2 x quarter turns. Where c / w is pi / 2 cut off, that is c / w times 2 x, in units of 1 / (w 2 ^ 149); pi / 2 may be d / w more
 -- the error against it: 17 2 ^ -29 + 2 |x| d / w, for enclosures as narrow as one likes

@@ -8,33 +8,32 @@ ghost use Rattle.circle.specs.Kernel.{quarterSine};
 ghost use Rattle.circle.specs.Wave.{placeOf, waveBits, wave};
 ghost use Rattle.circle.specs.Promise.{SinPi, CosPi, Sin, Cos};
 
-// One step of Horner's rule with alternating signs: the product, cut off, is taken away.
-fn step(c: u64, p: u64, z: u64) -> u64
-    requires { ⌜ (p ≤ c) × (c < 2 ^ 32) × (z < 2 ^ 32) ⌝ }
+// One step of Horner's rule with alternating signs: the upper half of the product of two 32-bit numbers is taken away.
+fn step(c: u32, p: u32, z: u32) -> u32
+    requires { ⌜ p ≤ c ⌝ }
     ensures { λ r. ⌜ (r ≡ c - p * z / 4294967296) × (r ≤ c) ⌝ }
 {
-    c - p * z / 4294967296
+    c - ((p as u64) * (z as u64) / 4294967296) as u32
 }
 
 // The sine of w / 2^32 quarter turns, in units of 2^-32: seven products of two 32-bit numbers.
-fn quarter_sine(w: u64) -> u64
-    requires { ⌜ w < 2 ^ 32 ⌝ }
+fn quarter_sine(w: u32) -> u64
     ensures { λ r. ⌜ r ≡ quarterSine w ⌝ }
 {
-    let z = w * w / 4294967296;
+    let z = ((w as u64) * (w as u64) / 4294967296) as u32;
     let p4 = step(0x000a_8033, 0x0000_396a, z);
     let p3 = step(0x0132_d0c8, p4, z);
     let p2 = step(0x1466_bbde, p3, z);
     let p1 = step(0xa55d_e723, p2, z);
-    let p0 = 0xc90f_daa2 - p1 * z / 8589934592;
-    w * p0 / 2147483648
+    let p0 = 0xc90f_daa2 - ((p1 as u64) * (z as u64) / 8589934592) as u32;
+    (w as u64) * (p0 as u64) / 2147483648
 }
 
 // How far the phase is into its quarter; in the second and the fourth, how far it is from the quarter's end.
-fn place(phase: u64) -> u64
-    ensures { λ r. ⌜ (r ≡ placeOf phase) × (r < 2 ^ 32) ⌝ }
+fn place(phase: u64) -> u32
+    ensures { λ r. ⌜ r ≡ placeOf phase ⌝ }
 {
-    let w = phase / 1073741824 % 4294967296;
+    let w = (phase / 1073741824 % 4294967296) as u32;
     if phase / 4611686018427387904 % 2 == 0 {
         w
     } else {

@@ -14,7 +14,7 @@ pub fn half_turns(b: u32) -> u64
         return 0;
     }
     if e < 87 {
-        return m >> (87 - e);
+        return (m << (e - 63)) / 16777216;
     }
     if e < 151 {
         return m << (e - 87);
@@ -43,7 +43,7 @@ fn window(i: u32) -> u64
 {
     let t = three_words(i / 32);
     let s = i % 32;
-    ((t.0 as u64 * 4294967296 + t.1 as u64) << s) + ((t.2 as u64) >> (32 - s))
+    ((t.0 as u64 * 4294967296 + t.1 as u64) << s) + ((t.2 as u64) << s) / 4294967296
 }
 
 // How far the exponent is beyond 86, below which a window has no digit yet.

@@ -24,6 +24,8 @@ const COS: u32 = 8;
 
 const DOT: u32 = 20;
 
+const SOFTMAX2: u32 = 21;
+
 const LOUDNESS: u32 = 22;
 
 // Which function a word names.
@@ -46,6 +48,8 @@ pub fn named(word: &[u8]) -> u32 {
         COS
     } else if check::same(word, b"dot") {
         DOT
+    } else if check::same(word, b"softmax2") {
+        SOFTMAX2
     } else if check::same(word, b"loudness") {
         LOUDNESS
     } else {
@@ -123,6 +127,34 @@ fn dot(floats: &[f32]) {
     answer(code, patterns::pattern(r));
 }
 
+// The floats, each as an answer.
+fn list(floats: &[f32]) {
+    let mut i = 0;
+    while i < floats.len() {
+        apart(i);
+        answer(0, patterns::pattern(floats[i]));
+        i += 1;
+    }
+}
+
+// The weight of each of the floats among all of them, or one refusal.
+fn weigh(floats: &[f32], weights: &mut [f32]) {
+    let code = earmath::ear_softmax2(floats, weights);
+    if code == 0 {
+        list(weights);
+    } else {
+        refusal(code);
+    }
+}
+
+fn softmax2(floats: &[f32]) {
+    let mut weights = [0.0; 2048];
+    let n = floats.len();
+    if n <= 2048 {
+        weigh(floats, &mut weights[0..n]);
+    }
+}
+
 // The channel b, m, T, C, then envelope values: a step for each of them.
 fn loudness(floats: &[f32]) {
     if floats.len() < 5 {
@@ -148,6 +180,8 @@ fn loudness(floats: &[f32]) {
 pub fn apply(function: u32, floats: &[f32]) {
     if function == DOT {
         dot(floats);
+    } else if function == SOFTMAX2 {
+        softmax2(floats);
     } else if function == LOUDNESS {
         loudness(floats);
     } else {

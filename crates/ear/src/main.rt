@@ -35,6 +35,10 @@ fn usage() {
     );
     io::write_all(
         STDOUT_FILENO,
+        b"softmax2                      the weight of each pattern among all of them\n",
+    );
+    io::write_all(
+        STDOUT_FILENO,
         b"loudness B M T C A...         the step of each A; T, C and steps in hexadecimal too\n",
     );
 }
@@ -88,7 +92,7 @@ fn known(word: &[u8]) -> u32 {
     if function == functions::UNKNOWN {
         complain(
             word,
-            b" is no function: sqrt rsqrt exp2 log2 sinpi cospi sin cos dot loudness\n",
+            b" is no function: sqrt rsqrt exp2 log2 sinpi cospi sin cos dot softmax2 loudness\n",
         );
     }
     function

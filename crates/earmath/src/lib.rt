@@ -7,6 +7,7 @@ ghost use Rattle.powers.specs.Exp2.{Exp2};
 ghost use Rattle.logs.specs.Log2.{Log2};
 ghost use Rattle.circle.specs.Promise.{SinPi, CosPi, Sin, Cos};
 ghost use Rattle.sums.specs.Dot.{Dot};
+ghost use Rattle.weights.specs.Softmax.{Softmax2};
 
 // The square root of every bit pattern: the nearest float, or code 1 and nothing written.
 #[no_mangle]
@@ -78,6 +79,14 @@ pub extern "C" fn ear_dot(a: &[f32], b: &[f32], out: &mut f32) -> u32
     ensures { λ code. ⌜ Dot (now (a .entry)) (now (b .entry)) code (now (out .entry)) (now (out .exit)) ⌝ }
 {
     sums::dot(a, b, out)
+}
+
+// 2 to the power of each element of a list over the sum of all these powers: within 273 / 2^32 of the quotient, or code 2 or 1 and nothing written.
+#[no_mangle]
+pub extern "C" fn ear_softmax2(x: &[f32], p: &mut [f32]) -> u32
+    ensures { λ code. ⌜ Softmax2 (now (x .entry)) code (now (p .entry)) (now (p .exit)) ⌝ }
+{
+    weights::softmax2(x, p)
 }
 
 // The loudness map of an envelope value a in the channel b, m, t, c: a step within 0.500001 of the exact map, or code 4 or 1 and nothing written.

@@ -3,5 +3,6 @@ pub mod Rounding
 pub mod Reduction
 pub mod Taken
 pub mod Order
+pub mod Fixed
 pub mod Range
 pub mod Promise

@@ -76,13 +76,13 @@ raised-most f small = most-of-less (lit< tt) (through D (D ^ 7) (raised f) (valu
     through : (d E r v : ℕ) → r * E ≤ v → 2 * d * r * ((2 * d + 1) * (d * E)) ≤ 2 * d * v * ((2 * d + 1) * d)
     through d E r v h = omega (arith, mul-le-mul-right (2 * d * ((2 * d + 1) * d)) h)
 
--- 2 ^ (f / D) ≤ (1 + 1 / (2 D)) (raised f + 5 / 4 + 64 f / D) / D: more than the floors of one chain lose, so that two chains which meet in one floor keep it too
-pub raised-least : (f : ℕ) → f ≤ D → AtLeast ((2 * D + 1) * ((4 * raised f + 5) * D + 256 * f)) (2 * D * (4 * D * D)) f 0 D
+-- 2 ^ (f / D) ≤ (1 + 1 / (2 D)) (raised f + 5 / 4 + 8 f / D) / D: more than the floors of one chain lose, so that two chains which meet in one floor keep it too
+pub raised-least : (f : ℕ) → f ≤ D → AtLeast ((2 * D + 1) * ((4 * raised f + 5) * D + 32 * f)) (2 * D * (4 * D * D)) f 0 D
 raised-least f small =
     least-of-more (least-pos (lit< tt) (lit< tt) near) (through D (D ^ 6) (raised f) (value 7 coefficients f D) (above f small)) near
   where
     near : AtLeast ((2 * D + 1) * value 7 coefficients f D) (2 * D * (D * D ^ 7)) f 0 D
     near = near-above f D (lit< tt) small
 
-    through : (d E r v : ℕ) → v ≤ (r + 1) * (E * d) + 6 * f * E → (2 * d + 1) * v * (2 * d * (4 * d * d)) ≤ (2 * d + 1) * ((4 * r + 5) * d + 256 * f) * (2 * d * (d * (E * d)))
+    through : (d E r v : ℕ) → v ≤ (r + 1) * (E * d) + 6 * f * E → (2 * d + 1) * v * (2 * d * (4 * d * d)) ≤ (2 * d + 1) * ((4 * r + 5) * d + 32 * f) * (2 * d * (d * (E * d)))
     through d E r v h = omega (arith, mul-le-mul-right ((2 * d + 1) * (2 * d * (4 * d * d))) h)

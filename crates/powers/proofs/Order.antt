@@ -3,9 +3,9 @@ use mathlib.Core.Path.{_≡_, sym, ap, _∙_}
 use mathlib.Core.Logic.{inl, inr}
 use mathlib.Core.Bool.{false}
 use Prim.Native.Nat.{ℕ, _+_, _*_, _/_, _%_, _^_, _≤_, _<_}
-use native.Mathlib.Nat.{le-trans, le-of-eq, mul-le-mul-right}
+use native.Mathlib.Nat.{le-trans, le-of-eq, mul-le-mul-left, mul-le-mul-right, pow-suc}
 use native.Mathlib.Omega.{arith}
-use lib.Pow.{pow-add, pow-mono}
+use lib.Pow.{pow-mono}
 use lib.Ieee.{binary32, ofBits}
 use Rattle.units.proofs.Naturals.{le-or-lt}
 use Rattle.units.proofs.Bits.{Is, put-positive}
@@ -43,16 +43,21 @@ pattern-in X h = elim (le-or-lt (253 * D) X) [
 pub pattern-is : (X : ℕ) → X ≤ 253 * D → Is (ofBits binary32 (exponentOf X * 8388608 + fractionDigits X)) false (fractionDigits X * 2 ^ exponentOf X)
 pattern-is X h = put-positive (fractionDigits X) (exponentOf X) (inr (first X)) (last X) (pattern-in X h)
 
--- a larger number has no fewer units: within a piece the digits never fall, and the last of a piece are at most the first of the next
-pub units-mono : (X X′ : ℕ) → X′ ≤ X → fractionDigits X′ * 2 ^ exponentOf X′ ≤ fractionDigits X * 2 ^ exponentOf X
-units-mono X X′ h = elim (le-or-lt (exponentOf X) (exponentOf X′)) [
-  | inl l ↦
+-- a function of the fraction that never falls, put together with the whole part, never falls: the last value of a piece is at most the first of the next
+pub pieces-mono : (h : ℕ → ℕ) (L : ℕ) → ((f g : ℕ) → f ≤ g → h f ≤ h g) → ((f : ℕ) → L ≤ h f) → ((f : ℕ) → f ≤ D → h f ≤ 2 * L) → (X X′ : ℕ) → X′ ≤ X
+    → h (X′ % D) * 2 ^ exponentOf X′ ≤ h (X % D) * 2 ^ exponentOf X
+pieces-mono h L grows first last X X′ l = elim (le-or-lt (exponentOf X) (exponentOf X′)) [
+  | inl k ↦
       let e : exponentOf X′ ≡ exponentOf X = omega arith in
-      rw e (mul-le-mul-right (2 ^ exponentOf X) (digits-mono (omega arith)))
-  | inr l ↦
-      le-trans (mul-le-mul-right (2 ^ exponentOf X′) (last X′))
-      (le-trans (carried (exponentOf X′) (exponentOf X) l) (mul-le-mul-right (2 ^ exponentOf X) (first X)))
+      rw e (mul-le-mul-right (2 ^ exponentOf X) (grows (X′ % D) (X % D) (omega arith)))
+  | inr k ↦
+      le-trans (mul-le-mul-right (2 ^ exponentOf X′) (last (X′ % D) (omega arith)))
+      (le-trans (carried (2 ^ exponentOf X′) (2 ^ exponentOf X) (le-trans (le-of-eq (sym (pow-suc 2 (exponentOf X′)))) (pow-mono k))) (mul-le-mul-right (2 ^ exponentOf X) (first (X % D))))
 ]
   where
-    carried : (i j : ℕ) → i < j → 2 ^ 24 * 2 ^ i ≤ 2 ^ 23 * 2 ^ j
-    carried i j l = le-trans (le-of-eq (sym (pow-add 2 24 i))) (le-trans (pow-mono {i = 24 + i} {j = 23 + j} (omega arith)) (le-of-eq (pow-add 2 23 j)))
+    carried : (u v : ℕ) → u * 2 ≤ v → 2 * L * u ≤ L * v
+    carried u v k = omega (arith, mul-le-mul-left L k)
+
+-- a larger number has no fewer units
+pub units-mono : (X X′ : ℕ) → X′ ≤ X → fractionDigits X′ * 2 ^ exponentOf X′ ≤ fractionDigits X * 2 ^ exponentOf X
+units-mono = pieces-mono digitsOf (2 ^ 23) (λ f g l. digits-mono l) digits-first digits-last

@@ -4,14 +4,14 @@ use mathlib.Core.Path.{_≡_, refl, sym, ap, ap₂, _∙_}
 use mathlib.Core.Logic.{inl, inr}
 use mathlib.Core.Bool.{Bool, true, false, cond}
 use Prim.Native.Nat.{ℕ, _+_, _-_, _*_, _/_, _%_, _^_, _≤_, _<_}
-use native.Mathlib.Nat.{le-trans, le-of-eq, lt-of-le-of-lt, lt-of-lt-of-le, mul-assoc, mul-comm, mul-le-mul-right, mul-lt-mul-of-pos-right, div-eq-of-lt, mul-div-mul-right}
+use native.Mathlib.Nat.{le-trans, le-of-eq, lt-of-le-of-lt, lt-of-lt-of-le, mul-assoc, mul-le-mul-right, mul-lt-mul-of-pos-right, div-eq-of-lt, mul-div-mul-right}
 use native.Mathlib.Omega.{arith}
 use lib.Dec.{lit<}
 use lib.Pow.{pow-add, pow-pos, pow-mono}
 use borrow.Author.Tests.{lt-ltb, le-ltb}
 use lib.Ieee.{Float, binary32, toBits}
 use Rattle.units.specs.Units.{mag, negative, P, N}
-use Rattle.units.proofs.Naturals.{le-or-lt, pow-back-lt}
+use Rattle.units.proofs.Naturals.{le-or-lt, pow-back-lt, pow-split}
 use Rattle.units.proofs.Signs.{sides, plus-of, minus-of}
 use Rattle.units.proofs.Bits.{signBit, pattern-subnormal, pattern-normal}
 use Rattle.powers.specs.Exp2.{Accepts, stepsOf, cutOf}
@@ -26,21 +26,14 @@ unfolding stepsOf
 steps-low b h = rw (lt-ltb b (94 * 8388608) h)
 
 -- from there on it is the shift
-pub steps-high : (b : ℕ) → 94 * 8388608 ≤ b → stepsOf b ≡ (b % 8388608 + 8388608) * 32768 / 2 ^ (133 - b / 8388608)
+pub steps-high : (b : ℕ) → 94 * 8388608 ≤ b → stepsOf b ≡ (b % 8388608 + 8388608) * 2 ^ (b / 8388608 - 94) / 16777216
 unfolding stepsOf
 steps-high b h = rw (le-ltb b (94 * 8388608) h)
 
 -- m * 2 ^ k units, in steps
-shifted : (m k s : ℕ) → s + k ≡ 132 → m * 32768 / 2 ^ s ≡ m * 2 ^ k / K
-shifted m k s e =
-    sym (mul-div-mul-right (m * 32768) (2 ^ s) (pow-pos 117))
-    ∙ ap₂ (λ (u v : ℕ). u / v) places (mul-comm (2 ^ s) K)
-    ∙ mul-div-mul-right (m * 2 ^ k) K (pow-pos s)
-  where
-    places : m * 32768 * K ≡ m * 2 ^ k * 2 ^ s
-    places =
-        let c : 132 ≡ k + s = omega arith in
-        mul-assoc m 32768 K ∙ ap (λ (z : ℕ). m * 2 ^ z) c ∙ ap (λ (z : ℕ). m * z) (pow-add 2 k s) ∙ sym (mul-assoc m (2 ^ k) (2 ^ s))
+shifted : (m k : ℕ) → 93 ≤ k → m * 2 ^ (k - 93) / 2 ^ 24 ≡ m * 2 ^ k / K
+shifted m k h =
+    sym (mul-div-mul-right (m * 2 ^ (k - 93)) (2 ^ 24) (pow-pos 93)) ∙ ap (λ (n : ℕ). n / K) (mul-assoc m (2 ^ (k - 93)) (2 ^ 93) ∙ ap (λ (n : ℕ). m * n) (sym (pow-split 93 k h)))
 
 -- b is the pattern of x's size
 record Size (x : Float) (b : ℕ) : Type 0 where
@@ -61,8 +54,8 @@ module _ (x : Float) (a : Accepts x) where
     | inl l ↦
         let b = k * 8388608 + m in
         let i : b % 8388608 + 8388608 ≡ m = omega arith in
-        let j : 133 - b / 8388608 ≡ 132 - k = omega arith in
-        steps-high b l ∙ ap₂ (λ (n s : ℕ). n * 32768 / 2 ^ s) i j ∙ shifted m k (132 - k) (omega arith) ∙ ap (λ (n : ℕ). n / K) (sym u)
+        let j : b / 8388608 - 94 ≡ k - 93 = omega arith in
+        steps-high b l ∙ ap₂ (λ (n s : ℕ). n * 2 ^ s / 16777216) i j ∙ shifted m k (omega arith) ∙ ap (λ (n : ℕ). n / K) (sym u)
     | inr l ↦
         let low : 24 + k ≤ 117 = omega arith in
         let none : mag x < K = lt-of-le-of-lt (le-of-eq u) (lt-of-lt-of-le (mul-lt-mul-of-pos-right digits (pow-pos k)) (le-trans (le-of-eq (sym (pow-add 2 24 k))) (pow-mono low))) in

@@ -23,7 +23,7 @@ pub record Within (a b : ℕ) (x r : Float) : Type 0 where
 
 -- the pattern b of a size below 2 ^ 7 as a whole number of 2 ^ -32, the rest cut off
 unfoldable pub stepsOf : ℕ → ℕ
-stepsOf b = cond (ltb b (94 * 8388608)) 0 ((b % 8388608 + 8388608) * 32768 / 2 ^ (133 - b / 8388608))
+stepsOf b = cond (ltb b (94 * 8388608)) 0 ((b % 8388608 + 8388608) * 2 ^ (b / 8388608 - 94) / 16777216)
 
 -- x + 126 as a whole number of 2 ^ -32, what is left of x's size cut off
 unfoldable pub cutOf : Float → ℕ

@@ -1,2 +1,3 @@
 pub mod Raised
 pub mod Exp2
+pub mod Fixed

@@ -4,18 +4,18 @@ ghost use mathlib.Core.Path.{_≡_};
 ghost use Prim.Native.Nat.{_+_, _*_, _/_, _%_, _<_, _≤_, _^_};
 ghost use Rattle.powers.specs.Raised.{raised};
 ghost use Rattle.powers.specs.Exp2.{Accepts, Exp2, stepsOf, cutOf, exp2Of};
+ghost use Rattle.powers.specs.Fixed.{FixedExp2};
 
-// One step of Horner's rule, the product cut off.
-fn step(c: u64, p: u64, f: u64) -> u64
-    requires { ⌜ (c ≤ 2 ^ 32) × (p < 2 ^ 32) × (f < 2 ^ 32) ⌝ }
+// One step of Horner's rule, the product of two 32-bit numbers cut off to its upper half.
+fn step(c: u32, p: u32, f: u32) -> u32
+    requires { ⌜ c + p < 2 ^ 32 ⌝ }
     ensures { λ r. ⌜ (r ≡ c + p * f / 4294967296) × (r ≤ c + p) ⌝ }
 {
-    c + p * f / 4294967296
+    c + ((p as u64) * (f as u64) / 4294967296) as u32
 }
 
-// 2 to the power f / 2^32 in units of 2^-32: seven steps, each of one product of two 32-bit numbers.
-fn raise(f: u64) -> u64
-    requires { ⌜ f < 2 ^ 32 ⌝ }
+// 2 to the power f / 2^32 in units of 2^-32, seven steps: 1 and the upper half of the last product.
+fn raise(f: u32) -> u64
     ensures { λ r. ⌜ r ≡ raised f ⌝ }
 {
     let p6 = step(0x0009_6c36, 0x0001_6783, f);
@@ -24,7 +24,7 @@ fn raise(f: u64) -> u64
     let p3 = step(0x0e35_93ba, p4, f);
     let p2 = step(0x3d7f_7a4b, p3, f);
     let p1 = step(0xb172_1808, p2, f);
-    step(0x1_0000_0000, p1, f)
+    0x1_0000_0000 + (p1 as u64) * (f as u64) / 4294967296
 }
 
 // The size below 2^7 with the pattern b as a whole number of 2^-32, cut off: its digits shifted to their place.
@@ -36,7 +36,7 @@ fn steps(b: u32) -> u64
     if b < 94 * 8388608 {
         0
     } else {
-        (((b % 8388608 + 8388608) as u64) * 32768) >> (133 - b / 8388608)
+        (((b % 8388608 + 8388608) as u64) << (b / 8388608 - 94)) / 16777216
     }
 }
 
@@ -54,14 +54,31 @@ fn cut_off(x: f32) -> u64
     }
 }
 
-// 2 to the power x, x from -126 to 127: the whole part of x + 126 is the exponent, and a carry of the digits into it is the addition.
+// Digits and an exponent: r * 2^(e - 158).
+pub struct Digits {
+    pub r: u64,
+    pub e: u32,
+}
+
+// 2 to the power x in fixed point, x from -126 to 127: the power of the fraction of x + 126, and its whole part.
+pub fn fixed_exp2(x: f32) -> Digits
+    requires { ⌜ Accepts x ⌝ }
+    ensures { λ t. ⌜ FixedExp2 x (t .r) (t .e) ⌝ }
+{
+    let c = cut_off(x);
+    Digits {
+        r: raise((c % 4294967296) as u32),
+        e: (c / 4294967296) as u32,
+    }
+}
+
+// 2 to the power x as a float: the digits rounded, and a carry of them into the exponent is the addition.
 fn power(x: f32) -> f32
     requires { ⌜ Accepts x ⌝ }
     ensures { λ r. ⌜ r ≡ exp2Of x ⌝ }
 {
-    let c = cut_off(x);
-    let p = raise(c % 4294967296);
-    f32::from_bits((c / 4294967296) as u32 * 8388608 + ((p + 256) / 512) as u32)
+    let t = fixed_exp2(x);
+    f32::from_bits(t.e * 8388608 + ((t.r + 256) / 512) as u32)
 }
 
 // 2 to the power x; code 1 and nothing written where x is a NaN, below -126 or above 127.

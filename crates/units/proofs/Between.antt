@@ -1,49 +1,56 @@
--- Range tests of either sign: a float between a bound and its opposite, by the machine's comparisons, is one whose size is at most the bound. Assumes nothing.
+-- A float from -L to H units: the machine's two tests, with the opposite of one float and with another, accept the finite floats between them and no others.
+-- Assumes nothing.
 use mathlib.Core.Path.{_≡_, _∙_}
+use mathlib.Core.Logic.{_⊎_, inl, inr}
 use mathlib.Core.Bool.{true, false}
 use Prim.Native.Nat.{ℕ, _+_, _≤_, _<_}
 use native.Mathlib.Omega.{arith}
 use lib.Dec.{T}
 use lib.Ieee.{Float, binary32, fits, le, neg}
-use Rattle.units.specs.Units.{mag, P, N, Number}
+use Rattle.units.specs.Units.{P, N, Number}
 use Rattle.units.proofs.Order.{le-true, le-false}
 use Rattle.units.proofs.Ranges.{finite-between}
-use Rattle.units.proofs.Signs.{size-sum, one-sided, plus-of, minus-of}
+use Rattle.units.proofs.Signs.{one-sided, plus-of, minus-of}
 use Rattle.units.proofs.Sums.{neg-sides, neg-number}
 use Rattle.units.proofs.Bits.{Is}
-use mathlib.Core.Logic.{_⊎_, inl, inr}
 
-module _ (bound x : Float) (B : ℕ) (is : Is bound false B) where
-  -- the units of the bound, and of its opposite
-  plus : (P bound ≡ B) × (N bound ≡ 0)
-  plus = (plus-of bound (is .sign) ∙ is .units, minus-of bound (is .sign))
+module _ (low high x : Float) (L H : ℕ) (l : Is low false L) (h : Is high false H) where
+  bottom-number : Number (neg low)
+  bottom-number = neg-number low (l .number)
 
-  minus : (P (neg bound) ≡ 0) × (N (neg bound) ≡ B)
-  minus = (neg-sides bound .0 ∙ plus .1, neg-sides bound .1 ∙ plus .0)
+  bottom-units : (P (neg low) ≡ 0) × (N (neg low) ≡ L)
+  bottom-units = (neg-sides low .0 ∙ minus-of low (l .sign), neg-sides low .1 ∙ plus-of low (l .sign) ∙ l .units)
 
-  minus-number : Number (neg bound)
-  minus-number = neg-number bound (is .number)
+  top-units : (P high ≡ H) × (N high ≡ 0)
+  top-units = (plus-of high (h .sign) ∙ h .units, minus-of high (h .sign))
 
   -- both tests passed
-  pub within-size : T (fits binary32 x) → le (neg bound) x ≡ true → le x bound ≡ true → Number x × (mag x ≤ B)
-  within-size f a b =
-      let h : Number x = record { fits32 = f; is-finite = finite-between (neg bound) x bound (minus-number .is-finite) (is .number .is-finite) a b } in
-      (h, both (P x) (N x) (mag x) _ _ _ _ (one-sided x) (size-sum x) plus minus (le-true (neg bound) x minus-number h a) (le-true x bound h (is .number) b))
+  pub between : T (fits binary32 x) → le (neg low) x ≡ true → le x high ≡ true → Number x × (N x ≤ L) × (P x ≤ H)
+  between f a b =
+      let n : Number x = record { fits32 = f; is-finite = finite-between (neg low) x high (bottom-number .is-finite) (h .number .is-finite) a b } in (
+        n,
+        at-least (P x) (N x) (P (neg low)) (N (neg low)) (one-sided x) (bottom-units .0) (bottom-units .1) (le-true (neg low) x bottom-number n a),
+        at-most (P x) (N x) (P high) (N high) (one-sided x) (top-units .0) (top-units .1) (le-true x high n (h .number) b),
+      )
     where
-      both : (p n m P₁ N₁ P₂ N₂ : ℕ) → (p ≡ 0) ⊎ (n ≡ 0) → p + n ≡ m → (P₁ ≡ B) × (N₁ ≡ 0) → (P₂ ≡ 0) × (N₂ ≡ B) → P₂ + n ≤ p + N₂ → p + N₁ ≤ P₁ + n → m ≤ B
-      both p n m P₁ N₁ P₂ N₂ (inl z) s (e, f) (g, k) low high = omega arith
-      both p n m P₁ N₁ P₂ N₂ (inr z) s (e, f) (g, k) low high = omega arith
+      at-least : (p n P₀ N₀ : ℕ) → (p ≡ 0) ⊎ (n ≡ 0) → P₀ ≡ 0 → N₀ ≡ L → P₀ + n ≤ p + N₀ → n ≤ L
+      at-least p n P₀ N₀ (inl z) e f k = omega arith
+      at-least p n P₀ N₀ (inr z) e f k = omega arith
 
-  -- the first failed
-  pub below-bound : Number x → mag x ≤ B → le (neg bound) x ≡ false → ⊥
-  below-bound h l e = clash (P x) (N x) (mag x) _ _ (size-sum x) minus l (le-false (neg bound) x minus-number h e)
-    where
-      clash : (p n m P₂ N₂ : ℕ) → p + n ≡ m → (P₂ ≡ 0) × (N₂ ≡ B) → m ≤ B → p + N₂ < P₂ + n → ⊥
-      clash p n m P₂ N₂ s (g, k) l c = omega arith
+      at-most : (p n P₀ N₀ : ℕ) → (p ≡ 0) ⊎ (n ≡ 0) → P₀ ≡ H → N₀ ≡ 0 → p + N₀ ≤ P₀ + n → p ≤ H
+      at-most p n P₀ N₀ (inl z) e f k = omega arith
+      at-most p n P₀ N₀ (inr z) e f k = omega arith
 
-  -- the second failed
-  pub above-bound : Number x → mag x ≤ B → le x bound ≡ false → ⊥
-  above-bound h l e = clash (P x) (N x) (mag x) _ _ (size-sum x) plus l (le-false x bound h (is .number) e)
+  -- no float between fails the first
+  pub not-below : Number x → N x ≤ L → le (neg low) x ≡ false → ⊥
+  not-below n k e = under (P x) (N x) (P (neg low)) (N (neg low)) (bottom-units .0) (bottom-units .1) k (le-false (neg low) x bottom-number n e)
     where
-      clash : (p n m P₁ N₁ : ℕ) → p + n ≡ m → (P₁ ≡ B) × (N₁ ≡ 0) → m ≤ B → P₁ + n < p + N₁ → ⊥
-      clash p n m P₁ N₁ s (g, k) l c = omega arith
+      under : (p n P₀ N₀ : ℕ) → P₀ ≡ 0 → N₀ ≡ L → n ≤ L → p + N₀ < P₀ + n → ⊥
+      under p n P₀ N₀ e f k g = omega arith
+
+  -- nor the second
+  pub not-above : Number x → P x ≤ H → le x high ≡ false → ⊥
+  not-above n k e = over (P x) (N x) (P high) (N high) (top-units .0) (top-units .1) k (le-false x high n (h .number) e)
+    where
+      over : (p n P₀ N₀ : ℕ) → P₀ ≡ H → N₀ ≡ 0 → p ≤ H → P₀ + n < p + N₀ → ⊥
+      over p n P₀ N₀ e f k g = omega arith

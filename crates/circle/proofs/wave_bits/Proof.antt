@@ -21,7 +21,7 @@ quarter-sine-requires c κs = search needs
 -- the size that was computed is the sine's
 size : (c : tie.After-quarter-sine) → c .quarter-sine .result ≡ sizeOf (c .before .before .args .phase)
 unfolding sizeOf
-size c = c .quarter-sine .ensures ∙ ap quarterSine (c .before .place .ensures .0)
+size c = c .quarter-sine .ensures ∙ ap quarterSine (c .before .place .ensures)
 
 returns : tie.Need-returns
 returns c = sym (wave-zero (c .before .before .before .args .phase) (sym (size (c .before)) ∙ c .if1 .taken))

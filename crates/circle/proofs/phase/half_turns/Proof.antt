@@ -16,24 +16,21 @@ returns : tie.Need-returns
 unfolding halfTurns
 returns c = let b = c .before .args .b in shifted-out (digits b) (exponent b) (omega arith) (omega arith)
 
-sub-result : tie.Need-sub-result
-sub-result c = search needs
-
 cast-result : tie.Need-cast-result
 cast-result c = search needs
 
-shr-result : tie.Need-shr-result
-shr-result c = search needs
+shl-result : tie.Need-shl-result
+shl-result c = search needs
 
 returns-2 : tie.Need-returns-2
 unfolding halfTurns
-returns-2 c = let b = c .before .before .args .b in shifted-right (digits b) (exponent b) (omega arith) (omega arith)
+returns-2 c = let b = c .before .before .args .b in shifted-right (digits b) (exponent b) (omega arith) (omega arith) (omega arith)
 
 cast-result-2 : tie.Need-cast-result-2
 cast-result-2 c = search needs
 
-shl-result : tie.Need-shl-result
-shl-result c = search needs
+shl-result-2 : tie.Need-shl-result-2
+shl-result-2 c = search needs
 
 returns-3 : tie.Need-returns-3
 unfolding halfTurns
@@ -44,17 +41,4 @@ unfolding halfTurns
 returns-4 c = let b = c .before .before .before .args .b in shifted-whole (digits b) (exponent b) (omega arith) (omega arith)
 
 pub half-turns-spec : {M : Type 1} → statement M
-half-turns-spec =
-    tie.close
-    (tie.spec
-    add-m
-    cast-m
-    returns
-    sub-result
-    cast-result
-    shr-result
-    returns-2
-    cast-result-2
-    shl-result
-    returns-3
-    returns-4)
+half-turns-spec = tie.close (tie.spec add-m cast-m returns cast-result shl-result returns-2 cast-result-2 shl-result-2 returns-3 returns-4)

@@ -1,0 +1,3 @@
+pub mod Softmax
+pub mod Weight
+pub mod Asked
