@@ -16,6 +16,8 @@
 float newlib_sqrtf(float x);
 float newlib_log2f(float x);
 float newlib_powf(float x, float y);
+float newlib_sinf(float x);
+float newlib_cosf(float x);
 
 /* Where inputs come from: evenly over the bit patterns from one float to
  * another, and so over the exponents between them, or evenly over the values. */
@@ -27,6 +29,10 @@ enum evenly { OVER_PATTERNS, OVER_VALUES };
 #define UP_TO_ONE {"a from 0 to 1", OVER_VALUES, 0, 1}
 #define EVERY_POWER {"x from -126 to 127", OVER_VALUES, -126, 127}
 #define AROUND_ZERO {"x from -1 to 1", OVER_VALUES, -1, 1}
+#define EVERY_ANGLE {"-8192 <= x <= 8192", OVER_VALUES, -8192, 8192}
+
+/* For rivals without a function of pi x; the product is rounded, so theirs are not the sines of pi x. */
+#define PI 3.14159274f
 
 /* The contests, a line for each function: its name, our call from x to *out,
  * what newlib's and glibc's code give, and two kinds of inputs. */
@@ -35,6 +41,10 @@ enum evenly { OVER_PATTERNS, OVER_VALUES };
     LINE(reciprocal_root, ear_rsqrt(x, out), 1.0f / newlib_sqrtf(x), 1.0f / sqrtf(x), EVERY_NORMAL, ONE_TO_FOUR) \
     LINE(power_of_two, ear_exp2(x, out), newlib_powf(2.0f, x), exp2f(x), EVERY_POWER, AROUND_ZERO) \
     LINE(logarithm, ear_log2(x, out), newlib_log2f(x), log2f(x), EVERY_NORMAL, ONE_TO_FOUR) \
+    LINE(sine, ear_sin(x, out), newlib_sinf(x), sinf(x), EVERY_ANGLE, AROUND_ZERO) \
+    LINE(cosine, ear_cos(x, out), newlib_cosf(x), cosf(x), EVERY_ANGLE, AROUND_ZERO) \
+    LINE(sine_of_pi_x, ear_sinpi(x, out), newlib_sinf(PI * x), sinf(PI * x), EVERY_ANGLE, AROUND_ZERO) \
+    LINE(cosine_of_pi_x, ear_cospi(x, out), newlib_cosf(PI * x), cosf(PI * x), EVERY_ANGLE, AROUND_ZERO) \
     LINE(loudness_map, loudness(x, out), straight(newlib_log2f, x), straight(log2f, x), BETWEEN, UP_TO_ONE)
 
 enum { INPUTS = 8192, ROUNDS = 200, OURS = 0, NEWLIB, GLIBC, CONTESTANTS };
@@ -173,7 +183,7 @@ int main(void)
     puts("glibc's sqrtf is called in the library, whose code is the processor's root instruction;");
     puts("the reciprocal root's rivals are 1.0f / sqrtf(x), which is not always the nearest float;");
     puts("newlib's exp2f without double precision is powf(2, x), its log2f is logf(x) / ln 2, and glibc's two compute");
-    puts("in double precision;");
+    puts("in double precision, as its sinf and cosf do; neither has a function of pi x, so there they take pi * x, rounded;");
     puts("the loudness map's are straightforward C on their log2f, with three logarithms in a call.\n");
     printf("%-16s %-19s %-11s %7s %7s %7s %12s %11s\n", "function", "inputs", "measure", "ours", "newlib", "glibc",
            "newlib/ours", "glibc/ours");

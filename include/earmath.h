@@ -79,6 +79,38 @@ uint32_t ear_exp2(float x, float *out);
 uint32_t ear_log2(float x, float *out);
 
 /*
+ * sin(pi x).
+ *
+ * Accepts: every finite x.
+ * Result:  within 17 * 2^-29 (2^-24.91) of the real number sin(pi x), for that
+ *          very x, however large. Exactly 0, 1 or -1 where 2 x is a whole
+ *          number, and the 0 is +0. Always from -1 to 1.
+ * Refuses: NaN and both infinities with EAR_OUT_OF_RANGE; *out stays as it was.
+ */
+uint32_t ear_sinpi(float x, float *out);
+
+/*
+ * cos(pi x). The same promise, of the cosine.
+ */
+uint32_t ear_cospi(float x, float *out);
+
+/*
+ * sin(x), x in radians.
+ *
+ * Accepts: every x with -8192 <= x <= 8192.
+ * Result:  within 17 * 2^-29 (2^-24.91) of the real number sin(x). Always from
+ *          -1 to 1.
+ * Refuses: NaN, both infinities, every x < -8192 and every x > 8192 with
+ *          EAR_OUT_OF_RANGE; *out stays as it was.
+ */
+uint32_t ear_sin(float x, float *out);
+
+/*
+ * cos(x), x in radians. The same promise, of the cosine.
+ */
+uint32_t ear_cos(float x, float *out);
+
+/*
  * The dot product: the sum of a[i] * b[i], for lists of na and nb floats.
  *
  * Accepts: na = nb = n <= 65,536, every element finite, every intermediate

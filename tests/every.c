@@ -108,6 +108,12 @@ static struct share every(const struct function *f)
     return shares[0];
 }
 
+/* A bound on the absolute error alone: relatively, and in ulp, a result near zero may be anything. */
+static bool absolute_only(const struct function *f)
+{
+    return f->right == near_wave || f->right == near_wave_of_pi;
+}
+
 /* The worst errors in powers of two, each with its input's pattern. */
 static void table(const struct share *shares, int count)
 {
@@ -115,9 +121,12 @@ static void table(const struct share *shares, int count)
            "beyond bound", "order broken");
     for (int i = 0; i < count; i++) {
         const struct share *s = &shares[i];
-        printf("%-15s %.4f %08" PRIx32 "   2^%-8.3f %08" PRIx32 " 2^%-8.3f %08" PRIx32 " %12" PRIu64, s->f->name,
-               s->ulps.error, s->ulps.at, log2(s->relative.error), s->relative.at, log2(s->absolute.error), s->absolute.at,
-               s->tally.seen[WRONG_VALUE]);
+        if (absolute_only(s->f))
+            printf("%-15s %-17s %-19s", s->f->name, "-", "-");
+        else
+            printf("%-15s %.4f %08" PRIx32 "   2^%-8.3f %08" PRIx32, s->f->name, s->ulps.error, s->ulps.at,
+                   log2(s->relative.error), s->relative.at);
+        printf(" 2^%-8.3f %08" PRIx32 " %12" PRIu64, log2(s->absolute.error), s->absolute.at, s->tally.seen[WRONG_VALUE]);
         if (s->f->order == ANY_ORDER)
             printf(" %13s\n", "-");
         else

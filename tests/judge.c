@@ -55,6 +55,45 @@ double binary_logarithm(double x)
     return (double)log2l(x);
 }
 
+/* The sine after so many quarter turns and r half turns, |r| <= 1/4. Zero is +0. */
+static double wave(long quarters, double r)
+{
+    static const double pi = 3.14159265358979323846;
+    double size = quarters % 2 == 0 ? sin(pi * r) : cos(pi * r);
+    return quarters % 4 < 2 ? size : 0 - size;
+}
+
+/* 2x to the nearest whole number, and the rest, are exact; from 2^24 on x is even. */
+static double wave_of_pi(double x, long quarters)
+{
+    if (fabs(x) >= 0x1p24)
+        return wave(quarters, 0);
+    double nearest = rint(2 * x);
+    return wave(((long)nearest + quarters) & 3, x - nearest / 2);
+}
+
+double sine_of_pi(double x)
+{
+    return wave_of_pi(x, 0) + 0.0;
+}
+
+double cosine_of_pi(double x)
+{
+    return wave_of_pi(x, 1) + 0.0;
+}
+
+bool near_wave(const struct function *f, float x, float result)
+{
+    return fabsf(result) <= 1 && within_absolute(f, x, result);
+}
+
+bool near_wave_of_pi(const struct function *f, float x, float result)
+{
+    if (2 * (double)x == rint(2 * (double)x))
+        return bits_of(result) == bits_of((float)f->exact(x));
+    return near_wave(f, x, result);
+}
+
 bool within_relative(const struct function *f, float x, float result)
 {
     double exact = f->exact(x);

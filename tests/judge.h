@@ -21,7 +21,7 @@ struct function {
     float low, high;           /* accepted: low <= x <= high, so never a NaN */
     double (*exact)(double x); /* the exact value, to double precision */
     bool (*right)(const struct function *f, float x, float result);
-    double bound;              /* for near_power, near_logarithm and within_... */
+    double bound;              /* for near_... and within_... */
     enum order order;          /* RISES: never falls as x grows */
     float (*twin)(float x);    /* other code that gives the same bits, or NULL */
 };
@@ -33,11 +33,15 @@ bool nearest_root(const struct function *f, float x, float result);
 bool nearest_reciprocal_root(const struct function *f, float x, float result);
 bool near_power(const struct function *f, float x, float result); /* exact at whole x */
 bool near_logarithm(const struct function *f, float x, float result); /* exact at powers of two, +0 at 1 */
+bool near_wave(const struct function *f, float x, float result); /* and from -1 to 1 */
+bool near_wave_of_pi(const struct function *f, float x, float result); /* exact where 2x is whole, 0 is +0 */
 bool within_relative(const struct function *f, float x, float result);
 bool within_absolute(const struct function *f, float x, float result);
 
 double reciprocal_root(double x);
 double binary_logarithm(double x);
+double sine_of_pi(double x);
+double cosine_of_pi(double x);
 
 /* What a function did at one input. */
 struct deed {

@@ -16,6 +16,8 @@
 float newlib_sqrtf(float x);
 float newlib_powf(float x, float y);
 float newlib_log2f(float x);
+float newlib_sinf(float x);
+float newlib_cosf(float x);
 
 #define OTHER(name, low, high, value) \
     static uint32_t name(float x, float *out) \
@@ -33,6 +35,10 @@ OTHER(newlib_power, -126.0f, 127.0f, newlib_powf(2.0f, x))
 OTHER(glibc_power, -126.0f, 127.0f, exp2f(x))
 OTHER(newlib_logarithm, 0x1p-126f, FLT_MAX, newlib_log2f(x))
 OTHER(glibc_logarithm, 0x1p-126f, FLT_MAX, log2f(x))
+OTHER(newlib_sine, -8192.0f, 8192.0f, newlib_sinf(x))
+OTHER(glibc_sine, -8192.0f, 8192.0f, sinf(x))
+OTHER(newlib_cosine, -8192.0f, 8192.0f, newlib_cosf(x))
+OTHER(glibc_cosine, -8192.0f, 8192.0f, cosf(x))
 
 static const struct function functions[] = {
     /* name, call, accepted from, to, exact value, check, bound, order, twin */
@@ -43,6 +49,10 @@ static const struct function functions[] = {
     {"glibc exp2f", glibc_power, -126.0f, 127.0f, exp2, near_power, 515 * 0x1p-33, RISES, NULL},
     {"newlib log2f", newlib_logarithm, 0x1p-126f, FLT_MAX, binary_logarithm, near_logarithm, 0x1p-21, RISES, NULL},
     {"glibc log2f", glibc_logarithm, 0x1p-126f, FLT_MAX, binary_logarithm, near_logarithm, 0x1p-21, RISES, NULL},
+    {"newlib sinf", newlib_sine, -8192.0f, 8192.0f, sin, near_wave, 17 * 0x1p-29, ANY_ORDER, NULL},
+    {"glibc sinf", glibc_sine, -8192.0f, 8192.0f, sin, near_wave, 17 * 0x1p-29, ANY_ORDER, NULL},
+    {"newlib cosf", newlib_cosine, -8192.0f, 8192.0f, cos, near_wave, 17 * 0x1p-29, ANY_ORDER, NULL},
+    {"glibc cosf", glibc_cosine, -8192.0f, 8192.0f, cos, near_wave, 17 * 0x1p-29, ANY_ORDER, NULL},
 };
 
 enum { FUNCTIONS = sizeof functions / sizeof functions[0] };

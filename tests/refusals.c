@@ -95,6 +95,10 @@ static void document_01(void)
     const struct function *logarithm = line_of(ear_log2);
     good = refused_at(logarithm, 0x007fffff) && refused_at(logarithm, 0x00000000) && refused_at(logarithm, 0x80000000);
     group(good && refused_at(logarithm, 0xbf800000), "log2 refuses the greatest subnormal, both zeros and -1");
+
+    good = refused_at(line_of(ear_sin), 0x46000001) && refused_at(line_of(ear_sin), 0xc6000001);
+    good &= refused_at(line_of(ear_cos), 0x46000001) && refused_at(line_of(ear_cos), 0xc6000001);
+    group(good, "sin x and cos x refuse the floats next to 8192 and -8192");
 }
 
 int main(void)

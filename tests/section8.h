@@ -4,6 +4,9 @@
 
 #include <stdint.h>
 
+#include "earmath.h"
+#include "judge.h"
+
 /* Bit patterns of x, of its nearest root, of its root cut off instead of
  * rounded, and of the nearest float to 1 over its root. */
 static const struct root_row {
@@ -37,5 +40,20 @@ static const uint32_t logarithm_rows[][2] = {
 };
 
 enum { LOGARITHM_ROWS = sizeof logarithm_rows / sizeof logarithm_rows[0] };
+
+/* The digits of sin(pi x), sin x and cos x, where they are not exactly 0 or 1. */
+static const struct wave_row {
+    const char *name;
+    single call;
+    uint32_t x;
+    double digits;
+} wave_rows[] = {
+    {"ear_sinpi", ear_sinpi, 0x3eaaaaab, 0.8660254193889},
+    {"ear_sin", ear_sin, 0x40490fdb, -8.7422780003725e-8},
+    {"ear_sin", ear_sin, 0x46000000, -0.95617315284315},
+    {"ear_cos", ear_cos, 0x46000000, 0.2928018131467},
+};
+
+enum { WAVE_ROWS = sizeof wave_rows / sizeof wave_rows[0] };
 
 #endif

@@ -1,5 +1,6 @@
 /* Document 01's values, by bit pattern. */
 #include <inttypes.h>
+#include <math.h>
 #include <stdio.h>
 
 #include "earmath.h"
@@ -70,6 +71,39 @@ static void logarithms(void)
     group(whole == NORMAL_EXPONENTS, "ear_log2: exact at %d of %d powers of two, +0 at 1", whole, NORMAL_EXPONENTS);
 }
 
+/* Bit patterns of x and of sin(pi x) and cos(pi x) where 2x is a whole number: document 01's 8388606.5, both
+ * zeros, quarters and halves of a turn in both directions, and the greatest floats, all of them even. */
+static const uint32_t whole_waves[][3] = {
+    {0x4afffffd, 0x3f800000, 0x00000000}, {0xcafffffd, 0xbf800000, 0x00000000}, {0x00000000, 0x00000000, 0x3f800000},
+    {0x80000000, 0x00000000, 0x3f800000}, {0x3f000000, 0x3f800000, 0x00000000}, {0xbf000000, 0xbf800000, 0x00000000},
+    {0x3f800000, 0x00000000, 0xbf800000}, {0xbf800000, 0x00000000, 0xbf800000}, {0x3fc00000, 0xbf800000, 0x00000000},
+    {0x40000000, 0x00000000, 0x3f800000}, {0x4b7fffff, 0x00000000, 0xbf800000}, {0x7f7fffff, 0x00000000, 0x3f800000},
+    {0xff7fffff, 0x00000000, 0x3f800000},
+};
+
+enum { WHOLE_WAVES = sizeof whole_waves / sizeof whole_waves[0] };
+
+static bool begins(const struct wave_row *row)
+{
+    float result = float_of(0x7fa5a5a5);
+    uint32_t code = row->call(float_of(row->x), &result);
+    return code == EAR_OK && fabs(result - row->digits) <= 17 * 0x1p-29;
+}
+
+static void waves(void)
+{
+    int rows = 0, whole = 0;
+    for (int i = 0; i < WAVE_ROWS; i++)
+        rows += begins(&wave_rows[i]);
+    for (int i = 0; i < WHOLE_WAVES; i++) {
+        whole += gives("ear_sinpi", ear_sinpi, whole_waves[i][0], whole_waves[i][1]);
+        whole += gives("ear_cospi", ear_cospi, whole_waves[i][0], whole_waves[i][2]);
+    }
+    group(rows == WAVE_ROWS, "sin and cos: %d of %d values of document 01, section 8, within 17 * 2^-29", rows, WAVE_ROWS);
+    group(whole == 2 * WHOLE_WAVES, "ear_sinpi, ear_cospi: %d of %d exact values where 2x is whole, +0 among them", whole,
+          2 * WHOLE_WAVES);
+}
+
 static void roots_of_section_8(void)
 {
     int roots = 0, reciprocals = 0, exact = 0;
@@ -90,5 +124,6 @@ int main(void)
     roots_of_section_8();
     powers();
     logarithms();
+    waves();
     return verdict();
 }

@@ -119,6 +119,60 @@ static uint32_t accepts_subnormals(float x, float *out)
     return ear_log2(x > 0 && x < 0x1p-126f ? 0x1p-126f : x, out);
 }
 
+/* Section 9, 5: quarter turns taken off with pi/2 as one float. */
+static uint32_t quarter_as_one_float(float x, float *out)
+{
+    if (!(x >= -8192 && x <= 8192))
+        return EAR_OUT_OF_RANGE;
+    const double quarter = 1.57079637f; /* the float next to pi/2 */
+    double quarters = rint(x / quarter);
+    double rest = x - quarters * quarter;
+    static double (*const size[])(double) = {sin, cos};
+    double wave = size[(long)quarters & 1](rest);
+    *out = (float)((long)quarters & 2 ? 0 - wave : wave);
+    return EAR_OK;
+}
+
+static uint32_t exchanged_in_one_quadrant(float x, float *out)
+{
+    uint32_t code = ear_sinpi(x, out);
+    double place = x - 2 * floor(x / 2.0);
+    if (code == EAR_OK && place > 0.5 && place < 1)
+        code = ear_cospi(x, out);
+    return code;
+}
+
+static uint32_t minus_zero_at_whole_numbers(float x, float *out)
+{
+    uint32_t code = ear_sinpi(x, out);
+    if (code == EAR_OK && *out == 0 && x < 0)
+        *out = -0.0f;
+    return code;
+}
+
+/* As a polynomial does that is a little too great at the quarter's end. */
+static uint32_t above_one(float x, float *out)
+{
+    uint32_t code = ear_cos(x, out);
+    if (code == EAR_OK && *out == 1)
+        *out = nextafterf(*out, 2);
+    return code;
+}
+
+/* The nearest float of a sine that is cut off to 24 digits first. */
+static uint32_t wave_cut_off(float x, float *out)
+{
+    uint32_t code = ear_cospi(x, out);
+    if (code == EAR_OK)
+        *out = (float)(trunc(cosine_of_pi(x) * 0x1p24) * 0x1p-24);
+    return code;
+}
+
+static uint32_t accepts_more_than_8192(float x, float *out)
+{
+    return ear_sin(x > 8192 && x < 8200 ? 8192 : x, out);
+}
+
 static const struct wrong {
     const char *what;
     single call, poses_as;
@@ -139,6 +193,12 @@ static const struct wrong {
     {"a log2 whose pieces do not meet", logarithms_that_do_not_meet, ear_log2, 0x3fc00000, OUT_OF_ORDER},
     {"a log2 with its fraction's sign turned", fraction_turned, ear_log2, 0x3fc00000, WRONG_VALUE},
     {"a log2 that accepts subnormals", accepts_subnormals, ear_log2, 0x007fffff, WRONG_CODE},
+    {"a sin x with pi/2 as one float", quarter_as_one_float, ear_sin, 0x46000000, WRONG_VALUE},
+    {"a sin(pi x) that is the cosine in one quadrant", exchanged_in_one_quadrant, ear_sinpi, 0x3f400001, WRONG_VALUE},
+    {"a sin(pi x) that is -0 at -1", minus_zero_at_whole_numbers, ear_sinpi, 0xbf800000, WRONG_VALUE},
+    {"a cos x that is above 1 at 0", above_one, ear_cos, 0x00000000, WRONG_VALUE},
+    {"a cos(pi x) that is cut off", wave_cut_off, ear_cospi, 0x3e4ccccd, WRONG_VALUE},
+    {"a sin x that accepts 8193", accepts_more_than_8192, ear_sin, 0x46000400, WRONG_CODE},
 };
 
 enum { WRONGS = sizeof wrongs / sizeof wrongs[0] };

@@ -14,6 +14,14 @@ const EXP2: u32 = 3;
 
 const LOG2: u32 = 4;
 
+const SINPI: u32 = 5;
+
+const COSPI: u32 = 6;
+
+const SIN: u32 = 7;
+
+const COS: u32 = 8;
+
 const DOT: u32 = 20;
 
 const SOFTMAX2: u32 = 21;
@@ -30,6 +38,14 @@ pub fn named(word: &[u8]) -> u32 {
         EXP2
     } else if check::same(word, b"log2") {
         LOG2
+    } else if check::same(word, b"sinpi") {
+        SINPI
+    } else if check::same(word, b"cospi") {
+        COSPI
+    } else if check::same(word, b"sin") {
+        SIN
+    } else if check::same(word, b"cos") {
+        COS
     } else if check::same(word, b"dot") {
         DOT
     } else if check::same(word, b"softmax2") {
@@ -49,6 +65,14 @@ fn at(function: u32, x: f32, out: &mut f32) -> u32 {
         earmath::ear_rsqrt(x, out)
     } else if function == EXP2 {
         earmath::ear_exp2(x, out)
+    } else if function == SINPI {
+        earmath::ear_sinpi(x, out)
+    } else if function == COSPI {
+        earmath::ear_cospi(x, out)
+    } else if function == SIN {
+        earmath::ear_sin(x, out)
+    } else if function == COS {
+        earmath::ear_cos(x, out)
     } else {
         earmath::ear_log2(x, out)
     }

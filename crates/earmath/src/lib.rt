@@ -5,6 +5,7 @@ ghost use Rattle.roots.specs.Rsqrt.{Rsqrt};
 ghost use Rattle.loudness.specs.Map.{Loudness};
 ghost use Rattle.powers.specs.Exp2.{Exp2};
 ghost use Rattle.logs.specs.Log2.{Log2};
+ghost use Rattle.circle.specs.Promise.{SinPi, CosPi, Sin, Cos};
 ghost use Rattle.sums.specs.Dot.{Dot};
 ghost use Rattle.weights.specs.Softmax.{Softmax2};
 
@@ -38,6 +39,38 @@ pub extern "C" fn ear_log2(x: f32, out: &mut f32) -> u32
     ensures { λ code. ⌜ Log2 x code (now (out .entry)) (now (out .exit)) ⌝ }
 {
     logs::log2(x, out)
+}
+
+// sin(pi x) of every finite bit pattern: within 17 / 2^29 of it, or code 1 and nothing written.
+#[no_mangle]
+pub extern "C" fn ear_sinpi(x: f32, out: &mut f32) -> u32
+    ensures { λ code. ⌜ SinPi x code (now (out .entry)) (now (out .exit)) ⌝ }
+{
+    circle::sinpi(x, out)
+}
+
+// cos(pi x), likewise.
+#[no_mangle]
+pub extern "C" fn ear_cospi(x: f32, out: &mut f32) -> u32
+    ensures { λ code. ⌜ CosPi x code (now (out .entry)) (now (out .exit)) ⌝ }
+{
+    circle::cospi(x, out)
+}
+
+// sin x of every bit pattern from -8192 to 8192: within 17 / 2^29 of it, or code 1 and nothing written.
+#[no_mangle]
+pub extern "C" fn ear_sin(x: f32, out: &mut f32) -> u32
+    ensures { λ code. ⌜ Sin x code (now (out .entry)) (now (out .exit)) ⌝ }
+{
+    circle::sin(x, out)
+}
+
+// cos x, likewise.
+#[no_mangle]
+pub extern "C" fn ear_cos(x: f32, out: &mut f32) -> u32
+    ensures { λ code. ⌜ Cos x code (now (out .entry)) (now (out .exit)) ⌝ }
+{
+    circle::cos(x, out)
 }
 
 // The sum of the products of two lists, within G times the sum of their sizes; or code 2, 1 or 3 and nothing written.

@@ -3,6 +3,7 @@ pub mod Polynomial
 pub mod Growth
 pub mod Forms
 pub mod Pieces
+pub mod Mirror
 pub mod Composite
 pub mod Enclosure
 pub mod Tight
@@ -15,6 +16,7 @@ pub mod Addition
 pub mod Within
 pub mod Rotation
 pub mod Limits
+pub mod Approximation
 pub mod Early
 pub mod Round
 pub mod Shift

@@ -1,4 +1,6 @@
 pub mod Take
 pub mod Nearest
 pub mod Horner
+pub mod Alternating
 pub mod Rounding
+pub mod Either

@@ -1,4 +1,3 @@
-pub mod Mirror
 pub mod Method
 pub mod Sixteenths
 pub mod Reduction

@@ -19,7 +19,7 @@ use Rattle.units.proofs.Naturals.{le-or-lt}
 use Rattle.fixed.specs.Horner.{horner}
 use Rattle.fixed.proofs.Horner.{horner-below, horner-mono}
 use Rattle.logs.specs.Rows.{rows, row}
-use Rattle.logs.proofs.Mirror.{mirror, value-mirror, length-mirror}
+use Rattle.exact.proofs.Mirror.{mirror, value-mirror, length-mirror}
 use Rattle.logs.proofs.Method.{Close, close-same, floors, encloses, close}
 
 -- the rows' polynomials are taken at v / 2 ^ 32 for a multiple v of 512; all is in steps of 2 ^ -32

@@ -1,0 +1,12 @@
+pub mod Method
+pub mod Rounding
+pub mod Pattern
+pub mod Turn
+pub mod Shifts
+pub mod Window
+pub mod Reduction
+pub mod Join
+pub mod Taken
+pub mod Near
+pub mod Whole
+pub mod Promise

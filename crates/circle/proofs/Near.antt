@@ -1,0 +1,109 @@
+-- How near the four functions come, put together from the rooms: Method and Rounding (the kernel), Turn (every phase), Reduction and Taken (the argument), Join (the last rounding).
+-- Assumes nothing.
+use mathlib.Core.Path.{_≡_, refl, ap}
+use mathlib.Core.Bool.{Bool, true, false, cond}
+use Prim.Native.Nat.{ℕ, _+_, _*_, _/_, _%_, _^_, _≤_, _<_}
+use native.Mathlib.Nat.{le-trans, le-of-eq, le-of-lt, mul-zero, mod-lt, mul-le-mul-right}
+use native.Mathlib.Omega.{arith}
+use lib.Dec.{lit<, lit≤}
+use lib.Pow.{pow-pos}
+use lib.Ieee.{Float}
+use Rattle.units.specs.Units.{mag, negative, P, N, Number}
+use Rattle.units.proofs.Size.{mag-lt}
+use Rattle.exact.specs.Circle.{Sine, Cosine, QuarterTurn}
+use Rattle.exact.proofs.Limits.{Both, both-wider}
+use Rattle.exact.proofs.Quarter.{quarter, quarterUnit}
+use Rattle.exact.proofs.Zero.{enclosed}
+use Rattle.fixed.proofs.Either.{sign-bit}
+use Rattle.circle.specs.Phase.{radians}
+use Rattle.circle.specs.Wave.{sizeOf, wave, sinPiOf, cosPiOf, sinOf, cosOf}
+use Rattle.circle.specs.Promise.{waveError, waveUnit, Accepts, openError, openUnit}
+use Rattle.circle.proofs.Method.{D}
+use Rattle.circle.proofs.Pattern.{wave-signed, size-top, units-top}
+use Rattle.circle.proofs.Reduction.{half-arrived}
+use Rattle.circle.proofs.Taken.{sizeBits, half-turns-taken, radians-taken}
+use Rattle.circle.proofs.Join.{both-float, sine-joined, cosine-joined}
+
+-- ---- every result
+
+-- is finite, and from -1 to 1
+module _ (t : ℕ) (few : t < 2 ^ 64) where
+  pub wave-number : Number (wave t)
+  wave-number = wave-signed t few .number
+
+  pub wave-inside : mag (wave t) ≤ 2 ^ 149
+  wave-inside = le-trans (le-of-eq (wave-signed t few .size)) (units-top (sizeOf t) (size-top t))
+
+pub less : (n : ℕ) → n % 2 ^ 64 < 2 ^ 64
+less n = mod-lt n (pow-pos 64)
+
+-- ---- pi x
+
+module _ (x : Float) (h : Number x) where
+  abbrev half : ℕ
+  half = mag x / 2 ^ 86
+
+  pub sinPi-is : sinPiOf x ≡ wave ((half % 2 ^ 64 + cond (negative x) 1 0 * 2 ^ 63) % 2 ^ 64)
+  unfolding sinPiOf
+  sinPi-is = rw (half-turns-taken x h, sign-bit x h) refl
+
+  pub cosPi-is : cosPiOf x ≡ wave ((half + 2 ^ 62) % 2 ^ 64)
+  unfolding cosPiOf
+  cosPi-is = rw (half-turns-taken x h) (ap wave (on half))
+    where
+      on : (n : ℕ) → (n % 2 ^ 64 + 2 ^ 62) % 2 ^ 64 ≡ (n + 2 ^ 62) % 2 ^ 64
+      on n = omega arith
+
+  -- by our own pi / 2, with 135 2 ^ -32
+  half-near : Both (quarter * (2 * mag x)) (quarterUnit * 2 ^ 149) (P (wave ((half + 2 ^ 62) % 2 ^ 64))) (N (wave ((half + 2 ^ 62) % 2 ^ 64))) (P (wave (half % 2 ^ 64))) (N (wave (half % 2 ^ 64))) (2 ^ 149) 135 D
+  half-near = both-float ((half + 2 ^ 62) % 2 ^ 64) (half % 2 ^ 64) (less (half + 2 ^ 62)) (less half) (half-arrived (mag x) (mag-lt x h))
+
+  module _ (c d w : ℕ) (wpos : 0 < w) (turn : QuarterTurn c d w) where
+    -- by any other; 17 2 ^ -29 is 136 2 ^ -32, so that there is room for what is between them
+    any-near : Both (c * (2 * mag x)) (w * 2 ^ 149) (P (wave ((half + 2 ^ 62) % 2 ^ 64))) (N (wave ((half + 2 ^ 62) % 2 ^ 64))) (P (wave (half % 2 ^ 64))) (N (wave (half % 2 ^ 64))) (2 ^ 149)
+        (openError d w x) (openUnit w)
+    any-near = enclosed (2 * mag x) (2 ^ 149) (2 ^ 40) waveError waveUnit wpos (pow-pos 149) (lit< tt) (lit< tt) turn room half-near
+      where
+        room : 135 * waveUnit * (quarterUnit * 2 ^ 149 * 2 ^ 40) + D * waveUnit * (2 * mag x * 2 ^ 40 + quarterUnit * 2 ^ 149) ≤ waveError * D * (quarterUnit * 2 ^ 149 * 2 ^ 40)
+        room = through (quarterUnit * 2 ^ 149) (mag x) (le-trans (mul-le-mul-right (2 ^ 34) (le-of-lt (mag-lt x h))) (unfold quarterUnit in lit≤ tt))
+          where
+            through : (Q M : ℕ) → M * 2 ^ 34 ≤ Q → 135 * waveUnit * (Q * 2 ^ 40) + D * waveUnit * (2 * M * 2 ^ 40 + Q) ≤ waveError * D * (Q * 2 ^ 40)
+            through Q M l = omega arith
+
+    -- either sign
+    side : (s : Bool) (m : ℕ) → (c * (2 * cond s 0 m) ≡ cond s 0 (c * (2 * m))) × (c * (2 * cond s m 0) ≡ cond s (c * (2 * m)) 0)
+    side true m = (mul-zero c, refl)
+    side false m = (refl, mul-zero c)
+
+    pub sinPi-near : Sine (c * (2 * P x)) (c * (2 * N x)) (w * 2 ^ 149) (P (sinPiOf x)) (N (sinPiOf x)) (2 ^ 149) (openError d w x) (openUnit w)
+    sinPi-near = let (e, f) = side (negative x) (mag x) in rw (e, f) (sine-joined (negative x) (half % 2 ^ 64) (less half) any-near (sinPiOf x) sinPi-is)
+
+    pub cosPi-near : Cosine (c * (2 * P x)) (c * (2 * N x)) (w * 2 ^ 149) (P (cosPiOf x)) (N (cosPiOf x)) (2 ^ 149) (openError d w x) (openUnit w)
+    cosPi-near = let (e, f) = side (negative x) (mag x) in rw (e, f) (cosine-joined (negative x) ((half + 2 ^ 62) % 2 ^ 64) any-near (cosPiOf x) cosPi-is)
+
+-- ---- x itself
+
+module _ (x : Float) (a : Accepts x) where
+  abbrev t : ℕ
+  t = radians (sizeBits x)
+
+  t-few : t < 2 ^ 64
+  unfolding radians
+  t-few = less _
+
+  pub sin-is : sinOf x ≡ wave ((t + cond (negative x) 1 0 * 2 ^ 63) % 2 ^ 64)
+  unfolding sinOf
+  sin-is = rw (sign-bit x (a .number)) refl
+
+  pub cos-is : cosOf x ≡ wave ((t + 2 ^ 62) % 2 ^ 64)
+  unfolding cosOf
+  cos-is = refl
+
+  both-near : Both (mag x) (2 ^ 149) (P (wave ((t + 2 ^ 62) % 2 ^ 64))) (N (wave ((t + 2 ^ 62) % 2 ^ 64))) (P (wave t)) (N (wave t)) (2 ^ 149) waveError waveUnit
+  both-near = both-wider (lit< tt) (lit≤ tt) (both-float ((t + 2 ^ 62) % 2 ^ 64) t (less (t + 2 ^ 62)) t-few (radians-taken x a))
+
+  pub sin-near : Sine (P x) (N x) (2 ^ 149) (P (sinOf x)) (N (sinOf x)) (2 ^ 149) waveError waveUnit
+  sin-near = sine-joined (negative x) t t-few both-near (sinOf x) sin-is
+
+  pub cos-near : Cosine (P x) (N x) (2 ^ 149) (P (cosOf x)) (N (cosOf x)) (2 ^ 149) waveError waveUnit
+  cos-near = cosine-joined (negative x) ((t + 2 ^ 62) % 2 ^ 64) both-near (cosOf x) cos-is

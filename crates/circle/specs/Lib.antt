@@ -1,0 +1,4 @@
+pub mod Kernel
+pub mod Phase
+pub mod Wave
+pub mod Promise

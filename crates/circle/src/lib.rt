@@ -1,0 +1,126 @@
+// Sine and cosine, of x and of pi x: whole numbers inside, one rounding at the end. An angle is its phase, a whole number of 2^-64 turns.
+
+mod phase;
+
+ghost use mathlib.Core.Path.{_≡_};
+ghost use Prim.Native.Nat.{_+_, _-_, _*_, _/_, _%_, _^_, _<_, _≤_};
+ghost use Rattle.circle.specs.Kernel.{quarterSine};
+ghost use Rattle.circle.specs.Wave.{placeOf, waveBits, wave};
+ghost use Rattle.circle.specs.Promise.{SinPi, CosPi, Sin, Cos};
+
+// One step of Horner's rule with alternating signs: the upper half of the product of two 32-bit numbers is taken away.
+fn step(c: u32, p: u32, z: u32) -> u32
+    requires { ⌜ p ≤ c ⌝ }
+    ensures { λ r. ⌜ (r ≡ c - p * z / 4294967296) × (r ≤ c) ⌝ }
+{
+    c - ((p as u64) * (z as u64) / 4294967296) as u32
+}
+
+// The sine of w / 2^32 quarter turns, in units of 2^-32: seven products of two 32-bit numbers.
+fn quarter_sine(w: u32) -> u64
+    ensures { λ r. ⌜ r ≡ quarterSine w ⌝ }
+{
+    let z = ((w as u64) * (w as u64) / 4294967296) as u32;
+    let p4 = step(0x000a_8033, 0x0000_396a, z);
+    let p3 = step(0x0132_d0c8, p4, z);
+    let p2 = step(0x1466_bbde, p3, z);
+    let p1 = step(0xa55d_e723, p2, z);
+    let p0 = 0xc90f_daa2 - ((p1 as u64) * (z as u64) / 8589934592) as u32;
+    (w as u64) * (p0 as u64) / 2147483648
+}
+
+// How far the phase is into its quarter; in the second and the fourth, how far it is from the quarter's end.
+fn place(phase: u64) -> u32
+    ensures { λ r. ⌜ r ≡ placeOf phase ⌝ }
+{
+    let w = (phase / 1073741824 % 4294967296) as u32;
+    if phase / 4611686018427387904 % 2 == 0 {
+        w
+    } else {
+        4294967295 - w
+    }
+}
+
+// The bit pattern of the sine of a phase: the size in its quarter, and the sign of its half. Where nothing is left it is +0.
+fn wave_bits(phase: u64) -> u32
+    ensures { λ r. ⌜ r ≡ waveBits phase ⌝ }
+{
+    let n = quarter_sine(place(phase));
+    if n == 0 {
+        return 0;
+    }
+    (phase / 9223372036854775808) as u32 * 0x8000_0000 + fixed::nearest_bits(n, 157)
+}
+
+// The sine of a phase, or with the sign 1 of its opposite: half a turn on.
+fn sine(phase: u64, sign: u32) -> f32
+    requires { ⌜ sign ≤ 1 ⌝ }
+    ensures { λ r. ⌜ r ≡ wave ((phase + sign * 2 ^ 63) % 2 ^ 64) ⌝ }
+{
+    f32::from_bits(wave_bits(std::num::wrapping_add_u64(phase, sign as u64 * 9223372036854775808)))
+}
+
+// The cosine: the sine a quarter on.
+fn cosine(phase: u64) -> f32
+    ensures { λ r. ⌜ r ≡ wave ((phase + 2 ^ 62) % 2 ^ 64) ⌝ }
+{
+    f32::from_bits(wave_bits(std::num::wrapping_add_u64(phase, 4611686018427387904)))
+}
+
+// sin(pi x) for every finite x; code 1 and nothing written where x is a NaN or an infinity.
+pub fn sinpi(x: f32, out: &mut f32) -> u32
+    ensures { λ code. ⌜ SinPi x code (now (out .entry)) (now (out .exit)) ⌝ }
+{
+    if f32::from_bits(0xff7f_ffff) <= x {
+        if x <= f32::from_bits(0x7f7f_ffff) {
+            let b = f32::to_bits(x);
+            *out = sine(phase::half_turns(b % 2147483648), b / 2147483648);
+            return 0;
+        }
+        return 1;
+    }
+    1
+}
+
+// cos(pi x), likewise.
+pub fn cospi(x: f32, out: &mut f32) -> u32
+    ensures { λ code. ⌜ CosPi x code (now (out .entry)) (now (out .exit)) ⌝ }
+{
+    if f32::from_bits(0xff7f_ffff) <= x {
+        if x <= f32::from_bits(0x7f7f_ffff) {
+            *out = cosine(phase::half_turns(f32::to_bits(x) % 2147483648));
+            return 0;
+        }
+        return 1;
+    }
+    1
+}
+
+// sin x, x from -8192 to 8192; code 1 and nothing written where x is anything else.
+pub fn sin(x: f32, out: &mut f32) -> u32
+    ensures { λ code. ⌜ Sin x code (now (out .entry)) (now (out .exit)) ⌝ }
+{
+    if -8192.0 <= x {
+        if x <= 8192.0 {
+            let b = f32::to_bits(x);
+            *out = sine(phase::radians(b % 2147483648), b / 2147483648);
+            return 0;
+        }
+        return 1;
+    }
+    1
+}
+
+// cos x, likewise.
+pub fn cos(x: f32, out: &mut f32) -> u32
+    ensures { λ code. ⌜ Cos x code (now (out .entry)) (now (out .exit)) ⌝ }
+{
+    if -8192.0 <= x {
+        if x <= 8192.0 {
+            *out = cosine(phase::radians(f32::to_bits(x) % 2147483648));
+            return 0;
+        }
+        return 1;
+    }
+    1
+}
