@@ -46,13 +46,14 @@ pub record SinPi (x : Float) (code : ℕ) (before after : Float) : Type 0 where
   -- within 17 2 ^ -29 of the real sin (pi x), for every enclosure of pi / 2
   pub near : Number x → (c d w : ℕ) → 0 < w → QuarterTurn c d w →
       Sine (c * (2 * P x)) (c * (2 * N x)) (w * 2 ^ 149) (P after) (N after) (2 ^ 149) (openError d w x) (openUnit w)
-  -- exactly 0, 1 or -1 where 2 x is a whole number k - l, of which a quarter turn each; 0 is +0
+  -- exactly 0, 1 or -1 where 2 x is a whole number k - l: so many quarter turns, or k + 3 l but for whole turns; 0 is +0
   pub whole : Number x → (k l : ℕ) → 2 * P x + l * 2 ^ 149 ≡ 2 * N x + k * 2 ^ 149 → after ≡ atQuarter (k + 3 * l)
   -- from -1 to 1
   pub inside : Number x → mag after ≤ 2 ^ 149
 
 -- the whole promise of cos (pi x)
 pub record CosPi (x : Float) (code : ℕ) (before after : Float) : Type 0 where
+  -- the same four clauses, of the cosine; it is the sine a quarter turn on
   pub answers : Answers Number cosPiOf x code before after
   pub near : Number x → (c d w : ℕ) → 0 < w → QuarterTurn c d w →
       Cosine (c * (2 * P x)) (c * (2 * N x)) (w * 2 ^ 149) (P after) (N after) (2 ^ 149) (openError d w x) (openUnit w)
@@ -70,6 +71,7 @@ pub record Sin (x : Float) (code : ℕ) (before after : Float) : Type 0 where
 
 -- the whole promise of cos x
 pub record Cos (x : Float) (code : ℕ) (before after : Float) : Type 0 where
+  -- the same three clauses, of the cosine
   pub answers : Answers Accepts cosOf x code before after
   pub near : Accepts x → Cosine (P x) (N x) (2 ^ 149) (P after) (N after) (2 ^ 149) waveError waveUnit
   pub inside : Accepts x → mag after ≤ 2 ^ 149
