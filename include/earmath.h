@@ -84,7 +84,8 @@ uint32_t ear_log2(float x, float *out);
  * Accepts: every finite x.
  * Result:  within 17 * 2^-29 (2^-24.91) of the real number sin(pi x), for that
  *          very x, however large. Exactly 0, 1 or -1 where 2 x is a whole
- *          number, and the 0 is +0. Always from -1 to 1.
+ *          number, and the 0 is +0. Always from -1 to 1. The bound is absolute:
+ *          a result below 2^-8 is a multiple of 2^-32, and of tiny x it is +0.
  * Refuses: NaN and both infinities with EAR_OUT_OF_RANGE; *out stays as it was.
  */
 uint32_t ear_sinpi(float x, float *out);
@@ -99,7 +100,8 @@ uint32_t ear_cospi(float x, float *out);
  *
  * Accepts: every x with -8192 <= x <= 8192.
  * Result:  within 17 * 2^-29 (2^-24.91) of the real number sin(x). Always from
- *          -1 to 1.
+ *          -1 to 1. The bound is absolute: a result below 2^-8 is a multiple of
+ *          2^-32, and of tiny x it is +0.
  * Refuses: NaN, both infinities, every x < -8192 and every x > 8192 with
  *          EAR_OUT_OF_RANGE; *out stays as it was.
  */
