@@ -25,7 +25,7 @@ unfolding sum
 loop-holds c = (omega arith, aligned-none (c .before .args .e))
 
 mul-share : tie.Need-mul-share Inv-loop μ-loop
-mul-share c = scaled-fits (c .before .loop .i) (length (c .before .before .before .args .x .now)) 4 (omega (arith, c .loop-test .taken)) (c .before .before .before .good .0 .1)
+mul-share c = scaled-fits _ (length (c .before .before .before .args .x .now)) 4 (omega (arith, c .loop-test .taken)) (c .before .before .before .good .0 .1)
 
 shared-slice-read-share : tie.Need-shared-slice-read-share Inv-loop μ-loop
 shared-slice-read-share c = omega (arith, c .before .loop-test .taken)
@@ -33,8 +33,7 @@ shared-slice-read-share c = omega (arith, c .before .loop-test .taken)
 share-requires : tie.Need-share-requires Inv-loop μ-loop
 share-requires c κs =
     let l = c .before .before in
-    let more : l .loop .i < length (l .before .before .args .x .now) = omega (arith, c .before .loop-test .taken) in
-    (l .before .before .pre .0 .each (l .loop .i) more, l .before .before .pre .2 (l .loop .i) more)
+    (l .before .before .pre .0 .each _ (omega (arith, c .before .loop-test .taken)), l .before .before .pre .2 _ (omega (arith, c .before .loop-test .taken)))
 
 -- 1,024 of them fit a word
 room : (s s′ i n : ℕ) → s ≤ i * (2 ^ 53 + 1) → s′ ≤ 1 * (2 ^ 53 + 1) → i < n → n ≤ 1024 → Fits w64 (s + s′)
