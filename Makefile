@@ -97,3 +97,5 @@ build/helpers.a: $(HELPERS:%=build/helpers/%.o)
 build/tests/%: %.c build/helpers.a $(HEADERS) $(LIBRARY)
 	@mkdir -p $(@D)
 	$(CC) $(TEST_FLAGS) $< build/helpers.a $(LIBRARY) -lmpfr -lgmp -lm -o $@
+
+include chip/rules.mk
