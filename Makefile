@@ -5,15 +5,16 @@
 # make others  all 2^32 patterns through newlib's and glibc's functions, judged as ours are (some minutes)
 # make bench   speed beside newlib's and glibc's functions, and beside a loop in C; writes docs/bench.txt
 # make times   seconds and peak memory of each crate's check
+# make chip    the archive for a Cortex-M4F; chip/rules.mk says what else there is for the chip
 
 CC = cc
 CFLAGS = -O2 -Wall -Wextra
 LIBRARY = build/libearmath.a
-TESTS = values refusals spread wrong dot softmax loudness loudness_wrong
+TESTS = values refusals spread wrong modes dot softmax loudness loudness_wrong
 
 # Tests stand in folders by subject. What is no test or sweep there is a helper that all of them share.
-FOLDERS = tests/harness tests/functions tests/lists tests/loudness
-SWEEPS = every loudness_every
+FOLDERS = tests/harness tests/functions tests/lists tests/loudness tests/chip
+SWEEPS = every loudness_every sweep faulty
 HELPERS = $(filter-out $(TESTS) $(SWEEPS),$(basename $(notdir $(wildcard $(FOLDERS:%=%/*.c)))))
 HEADERS = include/earmath.h $(wildcard $(FOLDERS:%=%/*.h))
 TEST_FLAGS = -std=c11 -D_POSIX_C_SOURCE=200809L $(CFLAGS) -pthread -Iinclude $(FOLDERS:%=-I%)
