@@ -15,7 +15,6 @@
 #ifndef EARMATH_H
 #define EARMATH_H
 
-#include <stddef.h>
 #include <stdint.h>
 
 #ifdef __cplusplus
@@ -130,7 +129,7 @@ uint32_t ear_cos(float x, float *out);
  * a and b must be valid, aligned pointers to na and nb floats, and *out a float
  * of neither list.
  */
-uint32_t ear_dot(const float *a, size_t na, const float *b, size_t nb, float *out);
+uint32_t ear_dot(const float *a, uint64_t na, const float *b, uint64_t nb, float *out);
 
 /*
  * Softmax, base two: p[i] is 2^x[i] over the sum of 2^x[j] for all j, for lists
@@ -151,7 +150,7 @@ uint32_t ear_dot(const float *a, size_t na, const float *b, size_t nb, float *ou
  * x and p must be valid, aligned pointers to nx and np floats, and the two lists
  * may not overlap.
  */
-uint32_t ear_softmax2(const float *x, size_t nx, float *p, size_t np);
+uint32_t ear_softmax2(const float *x, uint64_t nx, float *p, uint64_t np);
 
 /*
  * The loudness map: from the envelope of one channel to a whole current step.

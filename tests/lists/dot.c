@@ -126,7 +126,7 @@ static void of_longest_lists(void)
 }
 
 /* ---- single lists by name */
-static bool says(const float *x, size_t nx, const float *y, size_t ny, uint32_t code)
+static bool says(const float *x, uint64_t nx, const float *y, uint64_t ny, uint32_t code)
 {
     struct dot_tally t = {0};
     judge_dot(&t, ear_dot, x, nx, y, ny);
@@ -214,13 +214,13 @@ static void of_cancellation(void)
 }
 
 /* ---- wrong programs */
-static uint32_t leaves_out_the_last(const float *x, size_t nx, const float *y, size_t ny, float *out)
+static uint32_t leaves_out_the_last(const float *x, uint64_t nx, const float *y, uint64_t ny, float *out)
 {
     bool shorter = nx == ny && nx > 1;
     return ear_dot(x, nx - shorter, y, ny - shorter, out);
 }
 
-static uint32_t subtracts(const float *x, size_t nx, const float *y, size_t ny, float *out)
+static uint32_t subtracts(const float *x, uint64_t nx, const float *y, uint64_t ny, float *out)
 {
     uint32_t code = ear_dot(x, nx, y, ny, out);
     if (code == EAR_OK)
@@ -228,7 +228,7 @@ static uint32_t subtracts(const float *x, size_t nx, const float *y, size_t ny, 
     return code;
 }
 
-static uint32_t hides_overflow(const float *x, size_t nx, const float *y, size_t ny, float *out)
+static uint32_t hides_overflow(const float *x, uint64_t nx, const float *y, uint64_t ny, float *out)
 {
     uint32_t code = ear_dot(x, nx, y, ny, out);
     if (code == EAR_OVERFLOW)
@@ -236,25 +236,25 @@ static uint32_t hides_overflow(const float *x, size_t nx, const float *y, size_t
     return code == EAR_OVERFLOW ? EAR_OK : code;
 }
 
-static uint32_t writes_before_it_refuses(const float *x, size_t nx, const float *y, size_t ny, float *out)
+static uint32_t writes_before_it_refuses(const float *x, uint64_t nx, const float *y, uint64_t ny, float *out)
 {
     *out = 0;
     return ear_dot(x, nx, y, ny, out);
 }
 
-static uint32_t takes_the_shorter(const float *x, size_t nx, const float *y, size_t ny, float *out)
+static uint32_t takes_the_shorter(const float *x, uint64_t nx, const float *y, uint64_t ny, float *out)
 {
     size_t n = nx < ny ? nx : ny;
     return ear_dot(x, n, y, n, out);
 }
 
-static uint32_t one_code_for_both(const float *x, size_t nx, const float *y, size_t ny, float *out)
+static uint32_t one_code_for_both(const float *x, uint64_t nx, const float *y, uint64_t ny, float *out)
 {
     uint32_t code = ear_dot(x, nx, y, ny, out);
     return code == EAR_OVERFLOW ? EAR_OUT_OF_RANGE : code;
 }
 
-static uint32_t adds_from_the_end(const float *x, size_t nx, const float *y, size_t ny, float *out)
+static uint32_t adds_from_the_end(const float *x, uint64_t nx, const float *y, uint64_t ny, float *out)
 {
     float sum = 0;
     for (size_t i = nx; i-- > 0;)

@@ -26,8 +26,8 @@ void group_faults(const struct function *f, const struct tally *t)
 {
     for (int fault = 0; fault < FAULTS; fault++) {
         if (t->seen[fault] != 0)
-            group(false, "%s: %s: %" PRIu64 ", one at %08" PRIx32, f->name, fault_names[fault], t->seen[fault],
-                  t->first[fault]);
+            group(false, "%s: %s: %llu, one at %08" PRIx32, f->name, fault_names[fault],
+                  (unsigned long long)t->seen[fault], t->first[fault]);
         else if (promised(f, fault))
             group(true, "%s: %s: 0", f->name, fault_names[fault]);
     }

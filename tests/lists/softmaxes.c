@@ -154,7 +154,7 @@ static void judge_whole(struct softmax_tally *t, const float *p, size_t n, const
     t->worst_whole = fmax(t->worst_whole, off);
 }
 
-static uint32_t due_code(const float *x, size_t nx, size_t np)
+static uint32_t due_code(const float *x, uint64_t nx, uint64_t np)
 {
     if (nx != np || nx == 0 || nx > LONGEST)
         return EAR_BAD_LENGTH;
@@ -186,7 +186,7 @@ static void judge_outputs(struct softmax_tally *t, const float *x, const float *
     judge_whole(t, p, n, limits);
 }
 
-void judge_softmax(struct softmax_tally *t, softmax call, const float *x, size_t nx, size_t np,
+void judge_softmax(struct softmax_tally *t, softmax call, const float *x, uint64_t nx, uint64_t np,
                    const struct softmax_limits *limits)
 {
     static uint32_t memory[LONGEST + 1 + 2 * GUARD];

@@ -10,7 +10,7 @@
 #include <stddef.h>
 #include <stdint.h>
 
-typedef uint32_t (*softmax)(const float *x, size_t nx, float *p, size_t np);
+typedef uint32_t (*softmax)(const float *x, uint64_t nx, float *p, uint64_t np);
 
 enum { LONGEST = 1024 };
 
@@ -50,7 +50,7 @@ void open_softmaxes(void);
 void close_softmaxes(void);
 
 /* Calls it on x, with np places for the output. */
-void judge_softmax(struct softmax_tally *t, softmax call, const float *x, size_t nx, size_t np,
+void judge_softmax(struct softmax_tally *t, softmax call, const float *x, uint64_t nx, uint64_t np,
                    const struct softmax_limits *limits);
 
 uint64_t softmax_faults_in(const struct softmax_tally *t);

@@ -9,7 +9,7 @@
 #include <stddef.h>
 #include <stdint.h>
 
-typedef uint32_t (*dot)(const float *a, size_t na, const float *b, size_t nb, float *out);
+typedef uint32_t (*dot)(const float *a, uint64_t na, const float *b, uint64_t nb, float *out);
 
 enum { MOST = 65536 };
 
@@ -25,8 +25,8 @@ struct dot_tally {
 };
 
 /* The code that the promise says, in the order 2, 1, 3. */
-uint32_t due_code(const float *a, size_t na, const float *b, size_t nb);
+uint32_t due_code(const float *a, uint64_t na, const float *b, uint64_t nb);
 
-void judge_dot(struct dot_tally *t, dot call, const float *a, size_t na, const float *b, size_t nb);
+void judge_dot(struct dot_tally *t, dot call, const float *a, uint64_t na, const float *b, uint64_t nb);
 
 #endif

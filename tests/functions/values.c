@@ -119,11 +119,28 @@ static void roots_of_section_8(void)
     group(exact == EXACT_ROOTS, "ear_sqrt: %d of %d exact roots, of +0 and -0 among them", exact, EXACT_ROOTS);
 }
 
+/* Section 5's digits, and section 9's three equal inputs. */
+static void softmax(void)
+{
+    static const float inputs[4] = {0, 1, 2, -3.5f}, equal[3] = {7, 7, 7};
+    static const double digits[4] = {0.141075791979, 0.282151583958, 0.564303167916, 0.0124694561462};
+    float p[4] = {0}, q[3] = {0};
+    int near = 0, thirds = 0;
+    uint32_t code = ear_softmax2(inputs, 4, p, 4), code_of_equal = ear_softmax2(equal, 3, q, 3);
+    for (int i = 0; i < 4; i++)
+        near += code == EAR_OK && fabs(p[i] - digits[i]) <= 273 * 0x1p-32 * digits[i] + 1e-12;
+    for (int i = 0; i < 3; i++)
+        thirds += code_of_equal == EAR_OK && bits_of(q[i]) == 0x3eaaaaab;
+    group(near == 4, "ear_softmax2: %d of 4 values of document 01, section 5, within 273 * 2^-32", near);
+    group(thirds == 3, "ear_softmax2: %d of 3 equal inputs get the float next to a third", thirds);
+}
+
 int main(void)
 {
     roots_of_section_8();
     powers();
     logarithms();
     waves();
+    softmax();
     return verdict();
 }

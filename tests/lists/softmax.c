@@ -74,7 +74,7 @@ static void of_random_lists(void)
 }
 
 /* ---- single lists by name */
-static bool says(size_t nx, size_t np, uint32_t code)
+static bool says(uint64_t nx, uint64_t np, uint32_t code)
 {
     struct softmax_tally t = {0};
     judge_softmax(&t, ear_softmax2, x, nx, np, &proved);
@@ -205,7 +205,7 @@ static void of_elements(void)
 }
 
 /* ---- wrong programs */
-static uint32_t last_takes_the_rest(const float *from, size_t n, float *to, size_t m)
+static uint32_t last_takes_the_rest(const float *from, uint64_t n, float *to, uint64_t m)
 {
     uint32_t code = ear_softmax2(from, n, to, m);
     float others = 0;
@@ -217,7 +217,7 @@ static uint32_t last_takes_the_rest(const float *from, size_t n, float *to, size
 }
 
 /* With a sum that leaves out the last term. */
-static uint32_t leaves_out_the_last(const float *from, size_t n, float *to, size_t m)
+static uint32_t leaves_out_the_last(const float *from, uint64_t n, float *to, uint64_t m)
 {
     uint32_t code = ear_softmax2(from, n, to, m);
     for (size_t i = 0; code == EAR_OK && i < n && n > 1; i++)
@@ -225,14 +225,14 @@ static uint32_t leaves_out_the_last(const float *from, size_t n, float *to, size
     return code;
 }
 
-static uint32_t writes_as_it_judges(const float *from, size_t n, float *to, size_t m)
+static uint32_t writes_as_it_judges(const float *from, uint64_t n, float *to, uint64_t m)
 {
     for (size_t i = 0; i < n && i < m && fabsf(from[i]) <= 64; i++)
         to[i] = exp2f(from[i]);
     return ear_softmax2(from, n, to, m);
 }
 
-static uint32_t turned(const float *from, size_t n, float *to, size_t m)
+static uint32_t turned(const float *from, uint64_t n, float *to, uint64_t m)
 {
     float opposite[LONGEST];
     for (size_t i = 0; i < n && i < LONGEST; i++)
@@ -241,7 +241,7 @@ static uint32_t turned(const float *from, size_t n, float *to, size_t m)
 }
 
 /* Every second output one float larger. */
-static uint32_t by_place(const float *from, size_t n, float *to, size_t m)
+static uint32_t by_place(const float *from, uint64_t n, float *to, uint64_t m)
 {
     uint32_t code = ear_softmax2(from, n, to, m);
     for (size_t i = 0; code == EAR_OK && i + 1 < n; i += 2)
@@ -249,7 +249,7 @@ static uint32_t by_place(const float *from, size_t n, float *to, size_t m)
     return code;
 }
 
-static uint32_t accepts_65(const float *from, size_t n, float *to, size_t m)
+static uint32_t accepts_65(const float *from, uint64_t n, float *to, uint64_t m)
 {
     float cut[LONGEST];
     for (size_t i = 0; i < n && i < LONGEST; i++)
@@ -258,7 +258,7 @@ static uint32_t accepts_65(const float *from, size_t n, float *to, size_t m)
 }
 
 /* Straightforward C: a float sum of exp2f, and one division each. */
-static uint32_t straightforward(const float *from, size_t n, float *to, size_t m)
+static uint32_t straightforward(const float *from, uint64_t n, float *to, uint64_t m)
 {
     uint32_t code = ear_softmax2(from, n, to, m);
     float sum = 0;

@@ -33,7 +33,7 @@ static bool all_finite(const float *x, size_t n)
     return true;
 }
 
-uint32_t due_code(const float *a, size_t na, const float *b, size_t nb)
+uint32_t due_code(const float *a, uint64_t na, const float *b, uint64_t nb)
 {
     float sum;
     if (na != nb || na > MOST)
@@ -76,7 +76,7 @@ static void judge_result(struct dot_tally *t, const float *a, const float *b, si
     t->worst = fmax(t->worst, part);
 }
 
-void judge_dot(struct dot_tally *t, dot call, const float *a, size_t na, const float *b, size_t nb)
+void judge_dot(struct dot_tally *t, dot call, const float *a, uint64_t na, const float *b, uint64_t nb)
 {
     static const uint32_t sentinel = 0x7fa5a5a5;
     uint32_t memory[3] = {sentinel, sentinel, sentinel}, due = due_code(a, na, b, nb);
