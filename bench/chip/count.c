@@ -196,5 +196,6 @@ int main(void)
             if (!TRACE && who == 0 && contests[i].inputs.evenly != IN_LISTS)
                 most_of_all(&contests[i]);
         }
+    mark();
     return 0;
 }

@@ -52,36 +52,40 @@ def cost(mnemonic, operands, taken, before):
 
 
 class Listing:
-    """The instructions of a program by address, and the addresses of some functions."""
+    """The instructions of a program by address: mnemonic, operands, size, function."""
 
     def __init__(self, listing):
-        self.at, self.ranges = {}, {}
+        self.at, self.start = {}, {}
         name = None
         for line in listing.splitlines():
             if start := re.match(r"([0-9a-f]+) <(.+)>:$", line):
                 name = start[2]
-                self.ranges[name] = [int(start[1], 16), int(start[1], 16)]
+                self.start[name] = int(start[1], 16)
             elif found := re.match(r"\s*([0-9a-f]+):\t([0-9a-f ]+)\t(\S+)\s*([^;<]*)", line):
-                address, size = int(found[1], 16), len(found[2].replace(" ", "")) // 2
-                self.at[address] = (found[3], found[4].strip(), size, name)
-                self.ranges[name][1] = address + size
+                size = len(found[2].replace(" ", "")) // 2
+                self.at[int(found[1], 16)] = (found[3], found[4].strip(), size, name)
+
+
+def executed(trace):
+    """The addresses of a trace, each with the one after it."""
+    last = None
+    for line in trace:
+        if found := re.match(r"Trace \d+: \S+ \[[0-9a-f]+/([0-9a-f]+)/", line):
+            address = int(found[1], 16)
+            if last is not None:
+                yield last, address
+            last = address
 
 
 def cycles(listing, trace, harness):
-    """For each mark of a trace: cycles and instructions outside of the harness's own functions."""
-    totals, last = [], None
-    for line in trace:
-        found = re.match(r"Trace \d+: \S+ \[[0-9a-f]+/([0-9a-f]+)/", line)
-        if not found:
-            continue
-        address = int(found[1], 16)
-        if last and totals and last[1][3] not in harness:
-            mnemonic, operands, size, _ = last[1]
-            totals[-1][0] += cost(mnemonic, operands, address != last[0] + size, before)
+    """For each call of `mark` the cycles and instructions up to the next one, outside of the harness's own functions."""
+    totals, before = [], ("", "", 0, "")
+    for address, following in executed(trace):
+        mnemonic, operands, size, function = here = listing.at[address]
+        if address == listing.start["mark"]:
+            totals.append([0, 0])
+        elif totals and function not in harness:
+            totals[-1][0] += cost(mnemonic, operands, following != address + size, before)
             totals[-1][1] += 1
-        before = last[1] if last else ("", "", 0, "")
-        here = listing.at[address]
-        last = (address, here)
-        if here[3] == "mark":
-            totals.append([0, 0]) if address == listing.ranges["mark"][0] else None
+        before = here
     return totals
