@@ -59,7 +59,7 @@ times: tools-for-make
 	@tools/times
 
 clean:
-	rm -rf build target
+	rm -rf build target examples/chip/build
 
 # `error` says it in one line, where a recipe that fails would add one of make's own.
 need = $(eval missing := $(shell tools/need $(1) 2>&1))$(if $(missing),$(error $(missing)))
