@@ -1,13 +1,12 @@
--- `roots::reciprocal_above_zero` meets its contract: its pattern is the value function's. Assumes nothing.
+-- `roots::reciprocal_bits` meets its contract: its pattern is the value function's. Assumes nothing.
 use borrow.Author.Needs.{needs}
 use mathlib.Core.Path.{sym, subst}
 use Prim.Native.Nat.{ℕ, _+_, _*_, _<_}
 use native.Mathlib.Omega.{arith}
-use Rattle.units.proofs.Bits.{no-nan-positive}
-use Rattle.roots.specs.Rsqrt.{IsNearRecip}
-use Rattle.roots.proofs.ReciprocalRoot.{evened, turned, word-least, word-most, word-evened, pattern-in, rsqrt-of}
-use Rattle.roots.proofs.reciprocal_above_zero.Statement.{statement}
-use Rattle.roots.proofs.reciprocal_above_zero.Tie as tie
+use Rattle.roots.specs.Value.{IsNearRecip, turned}
+use Rattle.roots.proofs.ReciprocalRoot.{evened, word-least, word-most, word-evened, pattern-in, rsqrt-bits}
+use Rattle.roots.proofs.reciprocal_bits.Statement.{statement}
+use Rattle.roots.proofs.reciprocal_bits.Tie as tie
 
 apart-requires : tie.Need-apart-requires
 apart-requires c κs = search needs
@@ -55,16 +54,13 @@ cast-result c = omega (arith, in-pattern c)
 add-result : tie.Need-add-result
 add-result c = omega (arith, in-pattern c)
 
-float-from-bits-result : tie.Need-float-from-bits-result
-float-from-bits-result c = no-nan-positive _ (in-pattern c)
-
 returns : tie.Need-returns
 returns c =
     let s = c .before .before .before in
-    sym (rsqrt-of (s .args .x) (c .before .before .apart .result .m) (c .before .before .apart .result .e) (c .settle-reciprocal .result) (s .pre) (c .before .before .apart .ensures) (settled c))
+    sym (rsqrt-bits (s .args .x) (c .before .before .apart .result .m) (c .before .before .apart .result .e) (c .settle-reciprocal .result) (s .pre .above) (c .before .before .apart .ensures) (settled c))
 
-pub reciprocal-above-zero-spec : {M : Type 1} → statement M
-reciprocal-above-zero-spec =
+pub reciprocal-bits-spec : {M : Type 1} → statement M
+reciprocal-bits-spec =
     tie.close
     (tie.spec
     apart-requires
@@ -78,5 +74,4 @@ reciprocal-above-zero-spec =
     mul-result
     cast-result
     add-result
-    float-from-bits-result
     returns)

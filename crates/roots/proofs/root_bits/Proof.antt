@@ -1,14 +1,13 @@
--- `roots::root_above_zero` meets its contract: its pattern is the value function's. Assumes nothing.
+-- `roots::root_bits` meets its contract: its pattern is the value function's. Assumes nothing.
 use borrow.Author.Needs.{needs}
 use mathlib.Core.Path.{sym, subst}
 use Prim.Native.Nat.{ℕ, _+_, _*_, _<_}
 use native.Mathlib.Nat.{le-trans, le-of-eq, lt-of-le-of-lt}
 use native.Mathlib.Omega.{arith}
-use Rattle.units.proofs.Bits.{no-nan-positive}
-use Rattle.roots.specs.Sqrt.{IsNear}
-use Rattle.roots.proofs.SquareRoot.{digitsOf, halved, many, few, whole-word, pattern-in, sqrt-of}
-use Rattle.roots.proofs.root_above_zero.Statement.{statement}
-use Rattle.roots.proofs.root_above_zero.Tie as tie
+use Rattle.roots.specs.Value.{IsNear, radicand, halved}
+use Rattle.roots.proofs.SquareRoot.{many, few, whole-word, pattern-in, sqrt-bits}
+use Rattle.roots.proofs.root_bits.Statement.{statement}
+use Rattle.roots.proofs.root_bits.Tie as tie
 
 apart-requires : tie.Need-apart-requires
 apart-requires c κs = search needs
@@ -38,7 +37,7 @@ settle-root-requires c κs =
     (le-trans (many x m e a) (le-of-eq (sym w)), lt-of-le-of-lt (le-of-eq w) (few x m e a), c .root .ensures)
 
 -- the digits that were settled
-settled : (c : tie.After-settle-root) → IsNear (digitsOf (c .before .before .apart .result .m) (c .before .before .apart .result .e)) (c .settle-root .result)
+settled : (c : tie.After-settle-root) → IsNear (radicand (c .before .before .apart .result .m) (c .before .before .apart .result .e)) (c .settle-root .result)
 settled c =
     subst (λ (n : ℕ). IsNear n (c .settle-root .result))
     (whole-word (c .before .before .before .args .x) (c .before .before .apart .result .m) (c .before .before .apart .result .e) (c .before .before .apart .ensures))
@@ -59,15 +58,12 @@ cast-result c = omega (arith, in-pattern c)
 add-result-2 : tie.Need-add-result-2
 add-result-2 c = omega (arith, in-pattern c)
 
-float-from-bits-result : tie.Need-float-from-bits-result
-float-from-bits-result c = no-nan-positive _ (in-pattern c)
-
 returns : tie.Need-returns
 returns c =
-    sym (sqrt-of (c .before .before .before .args .x) (c .before .before .apart .result .m) (c .before .before .apart .result .e) (c .settle-root .result) (c .before .before .before .pre) (c .before .before .apart .ensures) (settled c))
+    sym (sqrt-bits (c .before .before .before .args .x) (c .before .before .apart .result .m) (c .before .before .apart .result .e) (c .settle-root .result) (c .before .before .apart .ensures) (settled c))
 
-pub root-above-zero-spec : {M : Type 1} → statement M
-root-above-zero-spec =
+pub root-bits-spec : {M : Type 1} → statement M
+root-bits-spec =
     tie.close
     (tie.spec
     apart-requires
@@ -81,5 +77,4 @@ root-above-zero-spec =
     mul-result
     cast-result
     add-result-2
-    float-from-bits-result
     returns)
