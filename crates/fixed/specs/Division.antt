@@ -1,4 +1,4 @@
--- A quotient and its remainder. Definitions only.
+-- A quotient and its remainder. A reader of the promises need not read this. Definitions only.
 use mathlib.Core.Path.{_≡_}
 use Prim.Native.Nat.{ℕ, _+_, _*_, _<_}
 

@@ -15,7 +15,8 @@ use Rattle.units.proofs.Naturals.{le-or-lt, pow-back-lt}
 use Rattle.units.proofs.Signs.{sign-plus}
 use Rattle.units.proofs.Size.{mag-lt}
 use Rattle.units.proofs.Bits.{pattern-normal}
-use Rattle.fixed.specs.Parts.{Positive, Apart}
+use Rattle.units.specs.Units.{Positive}
+use Rattle.fixed.specs.Parts.{Apart}
 use Rattle.fixed.proofs.Take.{apart-high, unique}
 use Rattle.logs.specs.Rows.{row}
 use Rattle.logs.specs.Log2.{Accepts}

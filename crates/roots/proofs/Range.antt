@@ -11,7 +11,7 @@ use Rattle.units.proofs.Naturals.{le-or-lt}
 use Rattle.units.proofs.Signs.{sign-plus}
 use Rattle.units.proofs.Patterns.{Shape, packed-of, finite-below, below-infinity, within, beyond}
 use Rattle.units.proofs.Between.{sign-clear}
-use Rattle.fixed.specs.Parts.{Positive}
+use Rattle.units.specs.Units.{Positive}
 
 -- no digits, no exponent
 nothing : Shape 0 0

@@ -17,7 +17,8 @@ use Rattle.units.proofs.Signs.{size-sum, sign-plus, minus-of}
 use Rattle.units.proofs.Answers.{given, declined, written, untouched}
 use Rattle.units.proofs.Bits.{Is, put-positive, no-nan-positive}
 use Rattle.units.proofs.Patterns.{pattern-back}
-use Rattle.fixed.specs.Parts.{Positive, Apart, significand, exponent}
+use Rattle.units.specs.Units.{Positive}
+use Rattle.fixed.specs.Parts.{Apart, significand, exponent}
 use Rattle.fixed.proofs.Take.{unique, own}
 use Rattle.fixed.proofs.Nearest.{Middle, nearest-above, nearest-below, in-order}
 use Rattle.roots.specs.Sqrt.{Accepts, NearestRoot, Sqrt}

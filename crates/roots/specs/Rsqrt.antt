@@ -4,7 +4,7 @@ use Prim.Native.Nat.{ℕ, _+_, _-_, _*_, _^_, _≤_, _<_}
 use lib.Ieee.{Float}
 use Rattle.units.specs.Units.{mag, P, N, Number, Le, Lt}
 use Rattle.units.specs.Answers.{Answers}
-use Rattle.fixed.specs.Parts.{Positive}
+use Rattle.units.specs.Units.{Positive}
 use Rattle.roots.specs.Value.{rsqrtOf}
 
 -- accepted: the finite floats above zero, the subnormals among them

@@ -5,7 +5,7 @@ mod guess;
 ghost use mathlib.Core.Path.{_≡_};
 ghost use Prim.Native.Nat.{_+_, _*_, _/_, _<_, _≤_, _^_};
 ghost use Rattle.units.specs.Answers.{Ends, floatBits};
-ghost use Rattle.fixed.specs.Parts.{Positive};
+ghost use Rattle.units.specs.Units.{Positive};
 ghost use Rattle.roots.specs.Value.{IsNear, sqrtBits, IsNearRecip, rsqrtBits};
 ghost use Rattle.roots.specs.Sqrt.{Sqrt};
 ghost use Rattle.roots.specs.Rsqrt.{Rsqrt};
