@@ -1,5 +1,7 @@
 // Reading a float's bits, taking it apart into whole numbers, and putting one together.
 
+pub mod division;
+
 ghost use mathlib.Core.Path.{_≡_};
 ghost use lib.Ieee.{binary32, toBits};
 ghost use Rattle.fixed.specs.Parts.{Positive, Apart};
