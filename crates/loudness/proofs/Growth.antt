@@ -44,7 +44,7 @@ module _ (b m : Float) (t c : ℕ) (sg : Segment b m t c) where
   high : Sound m
   high = high-sound (sg .levels)
 
-  b≤m : P b ≤ P m
+  pub b≤m : P b ≤ P m
   b≤m = let o = sg .levels .octave in omega arith
 
   -- between b and m a float has a level

@@ -68,8 +68,7 @@ module _ (k : ℕ) where
   places j jl l =
       let (m, e, u, v) = leading-length 32 k (lt-of-lt-of-le l (pow-mono {i = j} {j = 32} (omega arith))) in
       let mj : m < suc j = pow-back-lt m (suc j) (lt-of-le-of-lt v (lt-of-lt-of-le (twice k (2 ^ j) l) (le-of-eq (sym (pow-suc 2 j))))) in
-      let y : placesOf k + m ≡ 31 = omega arith in
-      (
+      let y : placesOf k + m ≡ 31 = omega arith in (
         omega arith,
         omega arith,
         le-trans (mul-le-mul-right (2 ^ placesOf k) (le-of-lt u)) (le-of-eq (sym (pow-add 2 m (placesOf k)) ∙ ap (λ (i : ℕ). 2 ^ i) (swapped (placesOf k) m y))),
@@ -88,7 +87,7 @@ module _ (k d : ℕ) (few : k ≤ 1023) (long : 2 ^ 58 ≤ d) (word : d < 2 ^ 64
   abbrev z : ℕ
   z = leadingZeros 64 d
 
-  full : Placed d z
+  pub full : Placed d z
   full = placed d (omega arith) word
 
   pub shifts : (21 ≤ y) × (y ≤ 31) × (z ≤ 5)

@@ -21,11 +21,11 @@ pub record HasSlope (k d : ℕ) (r : Slope) : Type 0 where
   pub factor : r .factor ≡ slopeOf k d
   pub shift : r .shift ≡ shiftOf k d
 
--- a rise n times the slope r: no word overflows
-pub record Factors (n : ℕ) (r : Slope) : Type 0 where
-  pub some : 0 < r .shift
-  pub few : r .shift < 32
-  pub product : n * r .factor ≤ 2 ^ 95
+-- a rise n times the slope f of shift s: no word overflows
+pub record Factors (n f s : ℕ) : Type 0 where
+  pub some : 0 < s
+  pub few : s < 32
+  pub product : n * f ≤ 2 ^ 95
 
 -- f holds a segment, the logarithm of b and the slope
 pub record Holds (f : Fitted) : Type 0 where

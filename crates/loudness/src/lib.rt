@@ -64,7 +64,10 @@ fn slope_over(k: u32, d: u64) -> Slope
     let y = u32::leading_zeros(k) - 1;
     let z = u64::leading_zeros(d);
     Slope {
-        factor: fixed::division::quotient(((k << y) as u64) * 4294967294, ((d << z) / 4294967296) as u32),
+        factor: fixed::division::quotient(
+            ((k << y) as u64) * 4294967294,
+            ((d << z) / 4294967296) as u32,
+        ),
         shift: y - z,
     }
 }
@@ -86,15 +89,14 @@ pub fn fit(b: f32, m: f32, t: u32, c: u32) -> Fitted
     }
 }
 
-// A rise n times the slope, to the nearest whole number of steps: the upper 64 of 96 digits, and the upper half of those.
-fn nearest_step(n: u64, r: Slope) -> u32
-    requires { ⌜ Factors n r ⌝ }
-    ensures { λ i. ⌜ i ≡ nearestStep n (r .factor) (r .shift) ⌝ }
+// A rise n times a slope, to the nearest whole number of steps: the upper 64 of 96 digits, and the upper half of those.
+fn nearest_step(n: u64, factor: u32, shift: u32) -> u32
+    requires { ⌜ Factors n factor shift ⌝ }
+    ensures { λ i. ⌜ i ≡ nearestStep n factor shift ⌝ }
 {
-    let f = r.factor as u64;
-    let s = r.shift;
+    let f = factor as u64;
     let p = n / 4294967296 * f + n % 4294967296 * f / 4294967296;
-    ((p / 4294967296) as u32 + (1u32 << (s - 1))) >> s
+    ((p / 4294967296) as u32 + (1u32 << (shift - 1))) >> shift
 }
 
 // The pattern of a, with 0 for -0.
@@ -120,22 +122,31 @@ pub fn step(f: Fitted, a: f32) -> u32
     requires { ⌜ Holds f × Envelope a ⌝ }
     ensures { λ r. ⌜ r ≡ stepOf (f .b) (f .m) (f .t) (f .c) a ⌝ }
 {
+    let b = f.b;
+    let m = f.m;
+    let t = f.t;
+    let c = f.c;
+    let low = f.low;
+    let factor = f.slope.factor;
+    let shift = f.slope.shift;
     let p = size_bits(a);
-    if p <= f32::to_bits(f.b) {
-        return f.t;
+    if p <= f32::to_bits(b) {
+        return t;
     }
-    if f32::to_bits(f.m) <= p {
-        return f.c;
+    if f32::to_bits(m) <= p {
+        return c;
     }
-    f.t + nearest_step((logs::fixed_log2(a) - f.low) * 32, f.slope)
+    t + nearest_step((logs::fixed_log2(a) - low) * 32, factor, shift)
 }
 
 // The step of an envelope value in the channel b, m, t, c; code 4 where they make no channel, code 1 where a is no envelope value.
 pub fn loudness(b: f32, m: f32, t: u32, c: u32, a: f32, out: &mut u32) -> u32
     ensures { λ code. ⌜ Ends itself (Loudness b m t c a) code (now (out .entry)) (now (out .exit)) ⌝ }
 {
-    if is_channel(b, m, t, c) {
-        if is_envelope(a) {
+    let channel = is_channel(b, m, t, c);
+    let envelope = is_envelope(a);
+    if channel {
+        if envelope {
             *out = step(fit(b, m, t, c), a);
             return 0;
         }
