@@ -14,7 +14,7 @@ use Rattle.units.proofs.Answers.{given, declined, written, untouched}
 use Rattle.fixed.specs.Rounded.{nearestBits}
 use Rattle.fixed.proofs.Rounding.{is-units, is-positive, zero-bits}
 use Rattle.logs.specs.Log2.{Accepts, NearLog, log2ErrorNum, log2ErrorDen, Log2}
-use Rattle.logs.specs.Value.{fixedOf, atOne, distanceOf, roundedBits, log2Of}
+use Rattle.logs.specs.Value.{fixedOf, atOne, stepsAbove, stepsBelow, distanceOf, roundedBits, log2Of}
 use Rattle.logs.specs.Fixed.{FixedLog2}
 use Rattle.logs.proofs.Reduction.{reading, whole-fixed}
 use Rattle.logs.proofs.Order.{fixed-least, fixed-most, fixed-order}
@@ -32,25 +32,25 @@ fixed-promised x w a e =
 -- it has the units of its distance, on one side or on the other
 record Steps (w : ℕ) (r : Float) : Type 0 where
   number : Number r
-  plus : P r ≡ unitsOf (w - atOne)
-  minus : N r ≡ unitsOf (atOne - w)
+  plus : P r ≡ unitsOf (stepsAbove w)
+  minus : N r ≡ unitsOf (stepsBelow w)
 
 steps : (w : ℕ) → w < 2 ^ 63 → Steps w (ofBits binary32 (roundedBits w))
 unfolding roundedBits
 steps w few = elim (le-or-lt atOne w) [
   | inl h ↦
-      let d : distanceOf w ≡ w - atOne = omega arith in
-      let i = is-positive (w - atOne) 135 (omega arith) (normal (w - atOne)) in
+      let d : distanceOf w ≡ stepsAbove w = omega arith in
+      let i = is-positive (stepsAbove w) 135 (omega arith) (normal (stepsAbove w)) in
       rw (sign-above w h, d, zero-add)
-      (record { number = i .number; plus = plus-of _ (i .sign) ∙ i .units; minus = minus-of _ (i .sign) ∙ sym (zero-units (atOne - w) (omega arith)) })
+      (record { number = i .number; plus = plus-of _ (i .sign) ∙ i .units; minus = minus-of _ (i .sign) ∙ sym (zero-units (stepsBelow w) (omega arith)) })
   | inr h ↦
-      let d : distanceOf w ≡ atOne - w = omega arith in
-      let r = ofBits binary32 (2147483648 + nearestBits (atOne - w) 135) in
-      let i = is-units (atOne - w) 135 (omega arith) (normal (atOne - w)) true (omega arith) in
+      let d : distanceOf w ≡ stepsBelow w = omega arith in
+      let r = ofBits binary32 (2147483648 + nearestBits (stepsBelow w) 135) in
+      let i = is-units (stepsBelow w) 135 (omega arith) (normal (stepsBelow w)) true (omega arith) in
       rw (sign-below w h, d)
       (record {
         number = i .number;
-        plus = ap (λ (s : Bool). cond s 0 (mag r)) (i .sign) ∙ sym (zero-units (w - atOne) (omega arith));
+        plus = ap (λ (s : Bool). cond s 0 (mag r)) (i .sign) ∙ sym (zero-units (stepsAbove w) (omega arith));
         minus = ap (λ (s : Bool). cond s (mag r) 0) (i .sign) ∙ i .units;
       })
 ]
@@ -72,8 +72,8 @@ module _ (x : Float) (a : Accepts x) where
   pub log2-relative : Within 33 (2 ^ 29) (mag x) (2 ^ 149) (P (log2Of x)) (N (log2Of x))
   log2-relative =
       rw (made .plus, made .minus)
-      (within (mag x) (2 ^ 149) (2 ^ 95) (w - atOne) (atOne - w) (unitsOf (w - atOne)) (unitsOf (atOne - w)) refl
-      (near-most (w - atOne) (omega (arith, few))) (near-least (w - atOne) (omega (arith, few))) (near-most (atOne - w) (omega arith)) (near-least (atOne - w) (omega arith))
+      (within (mag x) (2 ^ 149) (2 ^ 95) (stepsAbove w) (stepsBelow w) (unitsOf (stepsAbove w)) (unitsOf (stepsBelow w)) refl
+      (near-most (stepsAbove w) (omega (arith, few))) (near-least (stepsAbove w) (omega (arith, few))) (near-most (stepsBelow w) (omega arith)) (near-least (stepsBelow w) (omega arith))
       (fixed-below (mag x) w (reading x a)) (fixed-above (mag x) w (reading x a)))
 
   log2-near : NearLog log2ErrorNum log2ErrorDen x (log2Of x)
@@ -85,7 +85,7 @@ module _ (x : Float) (a : Accepts x) where
   log2-whole : (k : ℕ) → mag x ≡ 2 ^ k → P (log2Of x) + 149 * 2 ^ 149 ≡ k * 2 ^ 149 + N (log2Of x)
   log2-whole k e =
       let f = whole-fixed x a k e in
-      rw (made .plus, made .minus, whole-units (w - atOne) (omega (arith, few)) (k - 149) (omega arith), whole-units (atOne - w) (omega arith) (149 - k) (omega arith))
+      rw (made .plus, made .minus, whole-units (stepsAbove w) (omega (arith, few)) (k - 149) (omega arith), whole-units (stepsBelow w) (omega arith) (149 - k) (omega arith))
       (multiples (k - 149) 149 k (149 - k) (2 ^ 149) (omega arith))
     where
       multiples : (b c d e u : ℕ) → b + c ≡ d + e → b * u + c * u ≡ d * u + e * u
@@ -106,7 +106,7 @@ log2-order x a x′ a′ l =
     let h = fixed-order x x′ a a′ l in
     let few-x = few x a in
     rw (r .plus, r .minus, r′ .plus, r′ .minus)
-    (add-le-add (units-order (fixedOf x′ - atOne) (fixedOf x - atOne) (omega arith) (omega arith)) (units-order (atOne - fixedOf x) (atOne - fixedOf x′) (omega arith) (omega arith)))
+    (add-le-add (units-order (stepsAbove (fixedOf x′)) (stepsAbove (fixedOf x)) (omega arith) (omega arith)) (units-order (stepsBelow (fixedOf x)) (stepsBelow (fixedOf x′)) (omega arith) (omega arith)))
 
 -- code 0 and the value
 promised : (x : Float) → Accepts x → Log2 x 0 (log2Of x)

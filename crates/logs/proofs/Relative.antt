@@ -8,32 +8,32 @@ use lib.Dec.{lit<}
 use Rattle.exact.specs.Power.{AtMost, AtLeast}
 use Rattle.exact.proofs.Power.{most-of-larger, least-of-smaller, most-of-less, least-of-more, most-shift, least-shift}
 use Rattle.units.proofs.Naturals.{le-or-lt}
-use Rattle.logs.specs.Value.{atOne}
+use Rattle.logs.specs.Value.{stepsAbove, stepsBelow}
 use Rattle.logs.proofs.Reduction.{Read, least-over, most-over}
 use Rattle.exact.proofs.Ratio.{exponents}
 
 -- ---- in fixed point: 15 parts in 2 ^ 33
 -- F is at most 3/2 of the distance from log2 1, since it is at most 3/5
-distance : (k F W : ℕ) → (W ≡ k * 2 ^ 54 + F) ⊎ (W + F ≡ k * 2 ^ 54) → 5 * F ≤ 3 * 2 ^ 54 → 2 * F ≤ 3 * (W - atOne + (atOne - W))
+distance : (k F W : ℕ) → (W ≡ k * 2 ^ 54 + F) ⊎ (W + F ≡ k * 2 ^ 54) → 5 * F ≤ 3 * 2 ^ 54 → 2 * F ≤ 3 * (stepsAbove W + stepsBelow W)
 distance k F W (inl e) s = elim (le-or-lt k 126) [ inl h ↦ omega arith | inr h ↦ omega arith ]
 distance k F W (inr e) s = elim (le-or-lt k 127) [ inl h ↦ omega arith | inr h ↦ omega arith ]
 
 twice : (p m q : ℕ) → 2 * p * q + m * (2 * q) ≡ p * (2 * q) + 2 * m * q
 twice p m q = omega arith
 
-module _ (w F : ℕ) (h : 2 * F ≤ 3 * (w - atOne + (atOne - w))) where
-  sum-below : (2 ^ 33 - 15) * (w - atOne) + 2 * (5 * F + 127 * 2 ^ 86) ≤ 2 * (2 ^ 32 * w + 0 * 2 ^ 86) + (2 ^ 33 + 15) * (atOne - w)
+module _ (w F : ℕ) (h : 2 * F ≤ 3 * (stepsAbove w + stepsBelow w)) where
+  sum-below : (2 ^ 33 - 15) * stepsAbove w + 2 * (5 * F + 127 * 2 ^ 86) ≤ 2 * (2 ^ 32 * w + 0 * 2 ^ 86) + (2 ^ 33 + 15) * stepsBelow w
   sum-below = omega arith
 
-  sum-above : 2 * (2 ^ 32 * w + 5 * F + 0 * 2 ^ 86) + (2 ^ 33 - 15) * (atOne - w) ≤ (2 ^ 33 + 15) * (w - atOne) + 2 * (0 + 127 * 2 ^ 86)
+  sum-above : 2 * (2 ^ 32 * w + 5 * F + 0 * 2 ^ 86) + (2 ^ 33 - 15) * stepsBelow w ≤ (2 ^ 33 + 15) * stepsAbove w + 2 * (0 + 127 * 2 ^ 86)
   sum-above = omega arith
 
 module _ (X W : ℕ) (r : Read X W) where
   abbrev A : ℕ
-  A = W - atOne
+  A = stepsAbove W
 
   abbrev B : ℕ
-  B = atOne - W
+  B = stepsBelow W
 
   near-one : 2 * r .F ≤ 3 * (A + B)
   near-one = distance (r .k) (r .F) W (r .place) (r .small)

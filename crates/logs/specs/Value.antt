@@ -33,9 +33,15 @@ atOne = 2287828610704211968
 unfoldable pub signOf : ℕ → ℕ
 signOf w = cond (ltb w atOne) 2147483648 0
 
--- how far it is from log2 1
+-- how far it is above log2 1, how far below, and how far from it
+abbrev pub stepsAbove : ℕ → ℕ
+stepsAbove w = w - atOne
+
+abbrev pub stepsBelow : ℕ → ℕ
+stepsBelow w = atOne - w
+
 abbrev pub distanceOf : ℕ → ℕ
-distanceOf w = w - atOne + (atOne - w)
+distanceOf w = stepsAbove w + stepsBelow w
 
 -- the bit pattern of the float nearest to it: a step of 2 ^ -54 is 2 ^ (135 - 40) units
 unfoldable pub roundedBits : ℕ → ℕ
