@@ -98,3 +98,14 @@ pub extern "C" fn ear_loudness(b: f32, m: f32, t: u32, c: u32, a: f32, out: &mut
 {
     loudness::loudness(b, m, t, c, a, out)
 }
+
+ghost use Rattle.weights.specs.Softmax.{floatsOf};
+
+// The softmax of the floats that a list holds, in their place: within 273 / 2^32 of the quotient and from below one least float, or code 2 or 1 and
+// nothing written.
+#[no_mangle]
+pub extern "C" fn ear_softmax2_in_place(p: &mut [u32]) -> u32
+    ensures { λ code. ⌜ Ends listBits (Softmax2 (floatsOf (now (p .entry))) (length (now (p .entry)))) code (now (p .entry)) (now (p .exit)) ⌝ }
+{
+    weights::softmax2_in_place(p)
+}

@@ -7,10 +7,9 @@ use native.Mathlib.Omega.{arith}
 use lib.Pow.{pow-pos, pow-mono}
 use Rattle.units.proofs.Naturals.{pow-split}
 use Rattle.powers.specs.Fixed.{fixedDigits, fixedExponent, fixedPower}
-use lib.ListN.{length}
 use lib.Ieee.{Float}
 use Rattle.weights.specs.Lists.{at, sum}
-use Rattle.weights.specs.Softmax.{Element, Elements}
+use Rattle.weights.specs.Softmax.{Element}
 use Rattle.weights.specs.Value.{powerAt, shareOf, shareAt}
 use Rattle.weights.proofs.Range.{power}
 use Rattle.weights.proofs.Families.{sum-few}

@@ -1,7 +1,7 @@
 -- The scale of an accepted list: the largest element's exponent is that of the sum's steps, and the sum's reciprocal that of the powers. Assumes nothing.
-use mathlib.Core.Path.{_≡_, sym, ap, subst}
+use mathlib.Core.Path.{sym, ap, subst}
 use mathlib.Core.List.{List}
-use Prim.Native.Nat.{ℕ, _+_, _-_, _*_, _^_, _≤_, _<_}
+use Prim.Native.Nat.{ℕ, _-_, _^_, _≤_, _<_}
 use native.Mathlib.Nat.{le-trans, le-of-eq, lt-of-lt-of-le, mul-le-mul-right}
 use native.Mathlib.Omega.{arith}
 use lib.Count.{leadingZeros}

@@ -12,7 +12,7 @@ ghost use Rattle.units.specs.Tests.{Tells};
 ghost use Rattle.powers.specs.Fixed.{fixedExponent, fixedPower};
 ghost use Rattle.weights.specs.Lists.{at, sum};
 ghost use Rattle.weights.specs.Softmax.{Element, Elements, floatsOf, Softmax2};
-ghost use Rattle.weights.specs.Value.{keyOf, patternOf, larger, topKey, powerAt, shareOf, shareAt, inverseOf, factorOf, placesOf, weightBits, weightOf};
+ghost use Rattle.weights.specs.Value.{keyOf, patternOf, larger, topKey, powerAt, shareOf, shareAt, inverseOf, factorOf, placesOf, weightBits};
 ghost use Rattle.weights.specs.Weight.{sourceOf, Sized, IsJudged, Scaling, AtMostOne};
 
 // The pattern of the element i; of a NaN one of its patterns.
@@ -118,10 +118,10 @@ fn total(x: &[f32], p: &[u32], e: u32) -> u64
 {
     let n = p.len() as u32;
     let mut s = 0;
-    let mut i = 0;
-    while i < n {
-        s += share(element(x, p, i as usize), e);
-        i += 1;
+    let mut j = 0;
+    while j < n {
+        s += share(element(x, p, j as usize), e);
+        j += 1;
     }
     s
 }
@@ -174,11 +174,11 @@ fn fill(x: &[f32], p: &mut [u32], r: u32, c: u32)
     ensures { λ _. ⌜ now (p .exit) ≡ map (weightBits r c) (sourceOf (now (x .entry)) (now (p .entry))) ⌝ }
 {
     let n = p.len() as u32;
-    let mut i = 0;
-    while i < n {
-        let k = i as usize;
-        p[k] = weight(element(x, p, k), r, c);
-        i += 1;
+    let mut k = 0;
+    while k < n {
+        let i = k as usize;
+        p[i] = weight(element(x, p, i), r, c);
+        k += 1;
     }
 }
 
@@ -194,12 +194,12 @@ fn weigh(x: &[f32], p: &mut [u32]) -> u32
         return 2;
     }
     let j = judge(x, p);
-    if j.ok {
-        let s = scale(x, p, j.top);
-        fill(x, p, s.r, s.c);
-        return 0;
+    if !j.ok {
+        return 1;
     }
-    1
+    let s = scale(x, p, j.top);
+    fill(x, p, s.r, s.c);
+    0
 }
 
 // 2 to the power of each element over the sum of all these powers; code 2 or 1 and nothing written where lengths or an element are refused.

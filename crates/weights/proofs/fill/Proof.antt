@@ -1,14 +1,13 @@
 -- `weights::fill` meets its contract. The loop's invariant: the patterns written are those of the elements passed, and the rest is as it was. Assumes nothing.
 use mathlib.Core.Path.{_≡_, refl, sym, ap, _∙_, subst}
 use mathlib.Core.List.{List}
-use Prim.Native.Nat.{ℕ, _+_, _-_, _*_, _≤_, _<_}
+use Prim.Native.Nat.{ℕ, _-_, _≤_, _<_}
 use native.Mathlib.Nat.{le-refl, le-trans, lt-of-lt-of-le, le-of-eq, mul-le-mul-right, ne-of-lt, ne-of-gt}
 use native.Mathlib.Omega.{arith}
 use lib.ListN.{length, getD, set, length-set}
 use lib.Seq.{getD-set-same, getD-set-other}
 use lib.Ieee.{Float, nan}
 use borrow.Author.Count.{below-none, below-more}
-use borrow.Author.Needs.{needs, scaled-fits}
 use Rattle.weights.specs.Lists.{at}
 use Rattle.weights.specs.Softmax.{Element}
 use Rattle.weights.specs.Value.{powerAt, weightBits}
@@ -19,10 +18,10 @@ use Rattle.weights.proofs.fill.Statement.{statement}
 use Rattle.weights.proofs.fill.Tie as tie
 
 abbrev Inv-loop : tie.InvT-loop
-Inv-loop x p₀ r c n i₀ p i = (i ≤ n) × (length p ≡ length p₀) × ((k : ℕ) → k < i → getD p k 0 ≡ weightBits r c (at (sourceOf x p₀) k)) × ((k : ℕ) → i ≤ k → getD p k 0 ≡ getD p₀ k 0)
+Inv-loop x p₀ r c n k₀ p k = (k ≤ n) × (length p ≡ length p₀) × ((i : ℕ) → i < k → getD p i 0 ≡ weightBits r c (at (sourceOf x p₀) i)) × ((i : ℕ) → k ≤ i → getD p i 0 ≡ getD p₀ i 0)
 
 abbrev μ-loop : tie.MeasureT-loop
-μ-loop x p₀ r c n i₀ p i = n - i
+μ-loop x p₀ r c n k₀ p k = n - k
 
 cast-n : tie.Need-cast-n Inv-loop μ-loop
 cast-n c = omega arith
@@ -30,26 +29,26 @@ cast-n c = omega arith
 loop-holds : tie.Need-loop-holds Inv-loop μ-loop
 loop-holds c = (omega arith, refl, below-none _, λ k h. refl)
 
-cast-k : tie.Need-cast-k Inv-loop μ-loop
-cast-k c = omega arith
+cast-i : tie.Need-cast-i Inv-loop μ-loop
+cast-i c = omega arith
 
 -- the list as it was given, and its element at i, which is not yet written over
 abbrev xs : tie.Start Inv-loop μ-loop → List Float
 xs c = sourceOf (c .args .x .now) (c .args .p .now)
 
-within : (c : tie.In-loop Inv-loop μ-loop) → c .before .loop .i < length (xs (c .before .before .before .before))
+within : (c : tie.In-loop Inv-loop μ-loop) → c .before .loop .k < length (xs (c .before .before .before .before))
 within c = lt-of-lt-of-le (c .loop-test .taken) (le-of-eq (sym (c .before .before .before .before .pre .0)))
 
-accepted : (c : tie.In-loop Inv-loop μ-loop) → Element (at (xs (c .before .before .before .before)) (c .before .loop .i))
-accepted c = c .before .before .before .before .pre .2 .each (c .before .loop .i) (within c)
+accepted : (c : tie.In-loop Inv-loop μ-loop) → Element (at (xs (c .before .before .before .before)) (c .before .loop .k))
+accepted c = c .before .before .before .before .pre .2 .each (c .before .loop .k) (within c)
 
-unwritten : (c : tie.In-loop Inv-loop μ-loop) → at (sourceOf (c .before .before .before .before .args .x .now) (c .before .loop .p)) (c .before .loop .i) ≡ at (xs (c .before .before .before .before)) (c .before .loop .i)
+unwritten : (c : tie.In-loop Inv-loop μ-loop) → at (sourceOf (c .before .before .before .before .args .x .now) (c .before .loop .p)) (c .before .loop .k) ≡ at (xs (c .before .before .before .before)) (c .before .loop .k)
 unwritten c =
     let start = c .before .before .before .before in
     let inv = c .before .loop .inv in
-    still-at (start .args .x .now) (start .args .p .now) (c .before .loop .p) (inv .1) (c .before .loop .i) (c .loop-test .taken) (inv .3 (c .before .loop .i) (le-refl _))
+    still-at (start .args .x .now) (start .args .p .now) (c .before .loop .p) (inv .1) (c .before .loop .k) (c .loop-test .taken) (inv .3 (c .before .loop .k) (le-refl _))
 
-in-list : (c : tie.In-loop Inv-loop μ-loop) → c .before .loop .i < length (c .before .loop .p)
+in-list : (c : tie.In-loop Inv-loop μ-loop) → c .before .loop .k < length (c .before .loop .p)
 in-list c = lt-of-lt-of-le (c .loop-test .taken) (le-of-eq (sym (c .before .loop .inv .1)))
 
 element-requires : tie.Need-element-requires Inv-loop μ-loop
@@ -62,7 +61,7 @@ weight-requires : tie.Need-weight-requires Inv-loop μ-loop
 weight-requires c κs =
     let l = c .before .before in
     let start = l .before .before .before .before in
-    rw (c .element .ensures ∙ unwritten l) (accepted l, start .pre .3, le-trans (mul-le-mul-right (start .args .r) (member (powerAt (xs start)) (length (xs start)) (l .before .loop .i) (within l))) (start .pre .4))
+    rw (c .element .ensures ∙ unwritten l) (accepted l, start .pre .3, le-trans (mul-le-mul-right (start .args .r) (member (powerAt (xs start)) (length (xs start)) (l .before .loop .k) (within l))) (start .pre .4))
 
 mul-p : tie.Need-mul-p Inv-loop μ-loop
 mul-p c = omega (arith, c .before .before .before .loop-test .taken, c .before .before .before .before .before .before .before .pre .1)
@@ -70,8 +69,8 @@ mul-p c = omega (arith, c .before .before .before .loop-test .taken, c .before .
 slice-write-p : tie.Need-slice-write-p Inv-loop μ-loop
 slice-write-p c = in-list (c .before .before .before)
 
-add-i : tie.Need-add-i Inv-loop μ-loop
-add-i c = omega arith
+add-k : tie.Need-add-k Inv-loop μ-loop
+add-k c = omega arith
 
 loop-less : tie.Need-loop-less Inv-loop μ-loop
 loop-less c = omega arith
@@ -82,7 +81,7 @@ loop-again c =
     let start = l .before .before .before .before in
     let inv = l .before .loop .inv in
     let p = l .before .loop .p in
-    let i = l .before .loop .i in
+    let i = l .before .loop .k in
     let b = c .weight .result in (
       omega (arith, l .loop-test .taken),
       length-set p i b ∙ inv .1,
@@ -102,4 +101,4 @@ returns c =
     is-map (weightBits (start .args .r) (start .args .c)) nan 0 (xs start) (c .before .loop .p) (inv .1 ∙ sym (start .pre .0)) (λ i h. inv .2 i (omega (arith, start .pre .0, c .loop-test .left)))
 
 pub fill-spec : {M : Type 1} → statement M
-fill-spec = tie.close (tie.spec Inv-loop μ-loop cast-n loop-holds cast-k element-requires weight-requires mul-p slice-write-p add-i loop-less loop-again same-length returns)
+fill-spec = tie.close (tie.spec Inv-loop μ-loop cast-n loop-holds cast-i element-requires weight-requires mul-p slice-write-p add-k loop-less loop-again same-length returns)

@@ -1,5 +1,5 @@
 -- `weights::share` meets its contract: a shift, or nothing where it would be one of 64 places and more. Assumes nothing.
-use mathlib.Core.Path.{_≡_, sym, ap, ap₂, _∙_}
+use mathlib.Core.Path.{sym, ap, ap₂}
 use Prim.Native.Nat.{ℕ, _+_, _-_, _*_, _/_, _^_, _≤_, _<_}
 use native.Mathlib.Nat.{le-trans, le-of-eq, div-le-self}
 use native.Mathlib.Omega.{arith}

@@ -1,12 +1,7 @@
 -- `weights::softmax2` meets its promise: lists of one length are weighed. Assumes nothing.
 use borrow.Author.Needs.{needs}
-use mathlib.Core.Path.{_≡_, ap, _∙_, subst}
-use mathlib.Core.List.{List}
-use native.Mathlib.Omega.{arith}
+use mathlib.Core.Path.{ap, _∙_}
 use lib.ListN.{length}
-use lib.Ieee.{Float}
-use Rattle.units.specs.Answers.{Ends, listBits}
-use Rattle.weights.specs.Softmax.{Softmax2}
 use Rattle.weights.proofs.Source.{alike}
 use Rattle.weights.proofs.Promise.{refused-lengths}
 use Rattle.weights.proofs.softmax2.Statement.{statement}

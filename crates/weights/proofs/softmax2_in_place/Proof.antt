@@ -1,11 +1,9 @@
 -- `weights::softmax2_in_place` meets its promise: with no other list the floats of the patterns are weighed. Assumes nothing.
 use borrow.Author.Needs.{needs}
-use mathlib.Core.Path.{_≡_, refl, ap, _∙_, subst}
+use mathlib.Core.Path.{refl, ap, _∙_}
 use mathlib.Core.List.{[]}
 use lib.ListN.{length, length-map}
-use lib.Ieee.{Float, binary32, ofBits}
-use Rattle.units.specs.Answers.{Ends, listBits}
-use Rattle.weights.specs.Softmax.{Softmax2}
+use lib.Ieee.{binary32, ofBits}
 use Rattle.weights.proofs.Source.{own}
 use Rattle.weights.proofs.softmax2_in_place.Statement.{statement}
 use Rattle.weights.proofs.softmax2_in_place.Tie as tie

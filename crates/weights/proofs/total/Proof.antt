@@ -1,8 +1,8 @@
 -- `weights::total` meets its contract. The loop's invariant: s is the sum of the shares passed. Assumes nothing.
-use mathlib.Core.Path.{_≡_, refl, sym, ap, ap₂, _∙_, subst}
+use mathlib.Core.Path.{_≡_, refl, ap, ap₂, _∙_}
 use mathlib.Core.List.{List}
-use Prim.Native.Nat.{ℕ, _+_, _-_, _^_, _≤_, _<_}
-use native.Mathlib.Nat.{le-antisymm, lt-of-lt-of-le}
+use Prim.Native.Nat.{ℕ, _+_, _-_, _≤_, _<_}
+use native.Mathlib.Nat.{le-antisymm}
 use native.Mathlib.Numerals.{add-one}
 use native.Mathlib.Omega.{arith}
 use lib.ListN.{length}
@@ -17,10 +17,10 @@ use Rattle.weights.proofs.total.Statement.{statement}
 use Rattle.weights.proofs.total.Tie as tie
 
 abbrev Inv-loop : tie.InvT-loop
-Inv-loop x p e n s₀ i₀ s i = (i ≤ n) × (s ≡ sum (shareAt e (sourceOf x p)) i)
+Inv-loop x p e n s₀ j₀ s j = (j ≤ n) × (s ≡ sum (shareAt e (sourceOf x p)) j)
 
 abbrev μ-loop : tie.MeasureT-loop
-μ-loop x p e n s₀ i₀ s i = n - i
+μ-loop x p e n s₀ j₀ s j = n - j
 
 -- the list, and what is known of its elements
 abbrev xs : tie.Start Inv-loop μ-loop → List Float
@@ -42,26 +42,26 @@ cast-element c = omega arith
 element-requires : tie.Need-element-requires Inv-loop μ-loop
 element-requires c κs =
     let start = c .before .before .before .before in
-    (start .pre .0, c .loop-test .taken, each start (c .before .loop .i) (c .loop-test .taken) .0)
+    (start .pre .0, c .loop-test .taken, each start (c .before .loop .j) (c .loop-test .taken) .0)
 
 share-requires : tie.Need-share-requires Inv-loop μ-loop
-share-requires c κs = rw (c .element .ensures) (each (c .before .before .before .before .before) (c .before .before .loop .i) (c .before .loop-test .taken))
+share-requires c κs = rw (c .element .ensures) (each (c .before .before .before .before .before) (c .before .before .loop .j) (c .before .loop-test .taken))
 
 -- one more
-next : (c : tie.After-share Inv-loop μ-loop) → c .before .before .before .loop .s + c .share .result ≡ sum (shareAt (c .before .before .before .before .before .before .args .e) (xs (c .before .before .before .before .before .before))) (c .before .before .before .loop .i + 1)
+next : (c : tie.After-share Inv-loop μ-loop) → c .before .before .before .loop .s + c .share .result ≡ sum (shareAt (c .before .before .before .before .before .before .args .e) (xs (c .before .before .before .before .before .before))) (c .before .before .before .loop .j + 1)
 unfolding sum
 next c =
     let l = c .before .before .before in
-    rw (add-one (l .loop .i)) (ap₂ (λ (a b : ℕ). a + b) (l .loop .inv .1) (c .share .ensures ∙ ap (shareOf (l .before .before .before .args .e)) (c .before .element .ensures)))
+    rw (add-one (l .loop .j)) (ap₂ (λ (a b : ℕ). a + b) (l .loop .inv .1) (c .share .ensures ∙ ap (shareOf (l .before .before .before .args .e)) (c .before .element .ensures)))
 
 add-s : tie.Need-add-s Inv-loop μ-loop
 add-s c =
     let l = c .before .before .before in
     let start = l .before .before .before in
-    record { fits = rw (next c) (sum-fits (xs start) (start .args .e) (l .loop .i + 1) (omega (arith, c .before .before .loop-test .taken, start .pre .1)) (λ i h. each start i (omega (arith, c .before .before .loop-test .taken)))) }
+    record { fits = rw (next c) (sum-fits (xs start) (start .args .e) (l .loop .j + 1) (omega (arith, c .before .before .loop-test .taken, start .pre .1)) (λ i h. each start i (omega (arith, c .before .before .loop-test .taken)))) }
 
-add-i : tie.Need-add-i Inv-loop μ-loop
-add-i c = omega arith
+add-j : tie.Need-add-j Inv-loop μ-loop
+add-j c = omega arith
 
 loop-less : tie.Need-loop-less Inv-loop μ-loop
 loop-less c = omega arith
@@ -75,4 +75,4 @@ returns c =
     c .before .loop .inv .1 ∙ ap (sum (shareAt (start .args .e) (xs start))) (le-antisymm (c .before .loop .inv .0) (c .loop-test .left))
 
 pub total-spec : {M : Type 1} → statement M
-total-spec = tie.close (tie.spec Inv-loop μ-loop cast-n loop-holds cast-element element-requires share-requires add-s add-i loop-less loop-again returns)
+total-spec = tie.close (tie.spec Inv-loop μ-loop cast-n loop-holds cast-element element-requires share-requires add-s add-j loop-less loop-again returns)
