@@ -155,9 +155,16 @@ uint32_t ear_dot(const float *a, uint64_t na, const float *b, uint64_t nb, float
  *          EAR_OUT_OF_RANGE where an element is a NaN, below -64 or above 64.
  *
  * x and p must be valid, aligned pointers to nx and np floats, and the two lists
- * may not overlap.
+ * may not overlap: ear_softmax2_in_place is for one list.
  */
 uint32_t ear_softmax2(const float *x, uint64_t nx, float *p, uint64_t np);
+
+/*
+ * Softmax, base two, in place: the n floats of p are replaced by their softmax.
+ * The same promise as ear_softmax2(x, n, p, n) with x for the floats that p held,
+ * and the same bits. On a refusal the list is bit for bit what it was.
+ */
+uint32_t ear_softmax2_in_place(float *p, uint64_t n);
 
 /*
  * The loudness map: from the envelope of one channel to a whole current step.
