@@ -10,7 +10,7 @@ use lib.Ieee.{Float}
 use Rattle.units.specs.Units.{mag, Number}
 use Rattle.units.proofs.Naturals.{le-or-lt}
 use Rattle.units.proofs.Size.{mag-lt}
-use Rattle.fixed.specs.Parts.{Positive}
+use Rattle.units.specs.Units.{Positive}
 use Rattle.fixed.proofs.Nearest.{Nearest, one-nearest}
 use Rattle.roots.specs.Sqrt.{NearestRoot}
 use Rattle.roots.specs.Rsqrt.{NearestRecip}
