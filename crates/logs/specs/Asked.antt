@@ -1,4 +1,4 @@
--- What document 01 asks of log2: an absolute error from 1 / 2 to 2, and a relative one elsewhere. Change request Q2 asks for more, and the promise has it. Definitions only.
+-- What document 01 asks of log2: an absolute error from 1 / 2 to 2, and a relative one elsewhere. Change request Q2 asks for more, and the promise has it: a reader of that need not read this. Definitions only.
 use Prim.Native.Nat.{ℕ, _+_, _*_, _^_, _≤_}
 use lib.Ieee.{Float}
 use Rattle.exact.specs.Power.{AtMost, AtLeast}
