@@ -76,8 +76,9 @@ uint32_t ear_exp2(float x, float *out);
  * The logarithm to base two.
  *
  * Accepts: every finite x >= 2^-126, the normal floats above zero.
- * Result:  within 2^-21 * max(1, |log2(x)|) of the real logarithm. Exact at
- *          powers of two; of 1 it is +0.
+ * Result:  within 33 / 2^29 (below 2^-23.95) of the real logarithm, relatively,
+ *          also next to 1. Negative below 1, +0 at 1, positive above. Exact at
+ *          powers of two.
  * Order:   never falls as x grows.
  * Refuses: NaN, both infinities, subnormals, both zeros and every x < 0 with
  *          EAR_OUT_OF_RANGE; *out stays as it was.
