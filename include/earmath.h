@@ -88,12 +88,14 @@ uint32_t ear_log2(float x, float *out);
 /*
  * sin(pi x).
  *
- * Accepts: every finite x.
+ * Accepts: every x with -2^22 < x < 2^22. (From there on a counter has lost its
+ *          fraction: a phase that large is a mistake.)
  * Result:  within 17 / 2^29 (below 2^-24.91) of the real number sin(pi x), for
- *          that very x, however large. Exactly 0, 1 or -1 where 2 x is a whole
+ *          that very x. Exactly 0, 1 or -1 where 2 x is a whole
  *          number, and the 0 is +0. Always from -1 to 1. The bound is absolute,
  *          and says little of a result near 0.
- * Refuses: NaN and both infinities with EAR_OUT_OF_RANGE; *out stays as it was.
+ * Refuses: NaN, both infinities and every x of size 2^22 or more with
+ *          EAR_OUT_OF_RANGE; *out stays as it was.
  */
 uint32_t ear_sinpi(float x, float *out);
 
