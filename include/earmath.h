@@ -81,8 +81,9 @@ uint32_t ear_exp2(float x, float *out);
  * The logarithm to base two.
  *
  * Accepts: every finite x >= 2^-126, the normal floats above zero.
- * Result:  within 2^-21 * max(1, |log2(x)|) of the real logarithm. Exact at
- *          powers of two; of 1 it is +0.
+ * Result:  within 33 / 2^29 (below 2^-23.95) of the real logarithm, relatively,
+ *          also next to 1. Negative below 1, +0 at 1, positive above. Exact at
+ *          powers of two.
  * Order:   never falls as x grows.
  * Refuses: NaN, both infinities, subnormals, both zeros and every x < 0 with
  *          EAR_OUT_OF_RANGE; *out stays as it was.
@@ -92,12 +93,14 @@ uint32_t ear_log2(float x, float *out);
 /*
  * sin(pi x).
  *
- * Accepts: every finite x.
+ * Accepts: every x with -2^22 < x < 2^22. (From there on a counter has lost its
+ *          fraction: a phase that large is a mistake.)
  * Result:  within 17 / 2^29 (below 2^-24.91) of the real number sin(pi x), for
- *          that very x, however large. Exactly 0, 1 or -1 where 2 x is a whole
+ *          that very x. Exactly 0, 1 or -1 where 2 x is a whole
  *          number, and the 0 is +0. Always from -1 to 1. The bound is absolute,
  *          and says little of a result near 0.
- * Refuses: NaN and both infinities with EAR_OUT_OF_RANGE; *out stays as it was.
+ * Refuses: NaN, both infinities and every x of size 2^22 or more with
+ *          EAR_OUT_OF_RANGE; *out stays as it was.
  */
 uint32_t ear_sinpi(float x, float *out);
 

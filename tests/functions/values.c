@@ -71,17 +71,27 @@ static void logarithms(void)
     group(whole == NORMAL_EXPONENTS, "ear_log2: exact at %d of %d powers of two, +0 at 1", whole, NORMAL_EXPONENTS);
 }
 
-/* Bit patterns of x and of sin(pi x) and cos(pi x) where 2x is a whole number: document 01's 8388606.5, both
- * zeros, quarters and halves of a turn in both directions, and the greatest floats, all of them even. */
+/* Bit patterns of x and of sin(pi x) and cos(pi x) where 2x is a whole number: the greatest of them that are
+ * accepted, 4194303.5 and 4194303, both zeros, quarters and halves of a turn in both directions. */
 static const uint32_t whole_waves[][3] = {
-    {0x4afffffd, 0x3f800000, 0x00000000}, {0xcafffffd, 0xbf800000, 0x00000000}, {0x00000000, 0x00000000, 0x3f800000},
+    {0x4a7ffffe, 0xbf800000, 0x00000000}, {0xca7ffffe, 0x3f800000, 0x00000000}, {0x00000000, 0x00000000, 0x3f800000},
     {0x80000000, 0x00000000, 0x3f800000}, {0x3f000000, 0x3f800000, 0x00000000}, {0xbf000000, 0xbf800000, 0x00000000},
     {0x3f800000, 0x00000000, 0xbf800000}, {0xbf800000, 0x00000000, 0xbf800000}, {0x3fc00000, 0xbf800000, 0x00000000},
-    {0x40000000, 0x00000000, 0x3f800000}, {0x4b7fffff, 0x00000000, 0xbf800000}, {0x7f7fffff, 0x00000000, 0x3f800000},
-    {0xff7fffff, 0x00000000, 0x3f800000},
+    {0x40000000, 0x00000000, 0x3f800000}, {0x4a7ffffc, 0x00000000, 0xbf800000}, {0xca7ffffc, 0x00000000, 0xbf800000},
 };
 
 enum { WHOLE_WAVES = sizeof whole_waves / sizeof whole_waves[0] };
+
+/* A phase that large is a mistake: 2^22, document 01's 8388606.5, the greatest float, and their opposites. */
+static const uint32_t large_phases[] = {0x4a800000, 0xca800000, 0x4afffffd, 0xcafffffd, 0x7f7fffff, 0xff7fffff};
+
+enum { LARGE_PHASES = sizeof large_phases / sizeof large_phases[0] };
+
+static bool refuses(single call, uint32_t pattern)
+{
+    float result = float_of(0x7fa5a5a5);
+    return call(float_of(pattern), &result) == EAR_OUT_OF_RANGE && bits_of(result) == 0x7fa5a5a5;
+}
 
 static bool begins(const struct wave_row *row)
 {
@@ -92,7 +102,10 @@ static bool begins(const struct wave_row *row)
 
 static void waves(void)
 {
-    int rows = 0, whole = 0;
+    int rows = 0, whole = 0, large = 0;
+    for (int i = 0; i < LARGE_PHASES; i++)
+        large += refuses(ear_sinpi, large_phases[i]) && refuses(ear_cospi, large_phases[i]);
+    group(large == LARGE_PHASES, "ear_sinpi, ear_cospi: %d of %d phases from 2^22 on refused", large, LARGE_PHASES);
     for (int i = 0; i < WAVE_ROWS; i++)
         rows += begins(&wave_rows[i]);
     for (int i = 0; i < WHOLE_WAVES; i++) {

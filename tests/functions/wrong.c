@@ -92,8 +92,8 @@ static uint32_t minus_zero_at_one(float x, float *out)
     return code;
 }
 
-/* Two pieces, of which the lower one is 2^-22 too great, so within the bound:
- * the result falls at 3/2 times a power of two. */
+/* Two pieces, of which the lower one is 2^-22 too great: the result falls at
+ * 3/2 times a power of two. */
 static uint32_t logarithms_that_do_not_meet(float x, float *out)
 {
     uint32_t code = ear_log2(x, out);
@@ -101,6 +101,25 @@ static uint32_t logarithms_that_do_not_meet(float x, float *out)
     float fraction = frexpf(x, &exponent);
     if (code == EAR_OK && fraction != 0.5f && fraction < 0.75f)
         *out = (float)(log2(x) + 0x1p-22);
+    return code;
+}
+
+/* Cut off to steps of 2^-22, as document 01's absolute bound allows: next to 1
+ * nothing is left of it. */
+static uint32_t logarithm_cut_off(float x, float *out)
+{
+    uint32_t code = ear_log2(x, out);
+    if (code == EAR_OK)
+        *out = (float)(trunc(binary_logarithm(x) * 0x1p22) * 0x1p-22) + 0.0f;
+    return code;
+}
+
+/* 2^-22 too great where it is not whole: next to 1 it has the wrong sign. */
+static uint32_t logarithm_with_a_constant(float x, float *out)
+{
+    uint32_t code = ear_log2(x, out);
+    if (code == EAR_OK && *out != floorf(*out))
+        *out = (float)(binary_logarithm(x) + 0x1p-22);
     return code;
 }
 
@@ -190,6 +209,8 @@ static const struct wrong {
     {"a 2^x that cuts off instead of rounding", power_cut_off, ear_exp2, 0x3f800001, WRONG_VALUE},
     {"a 2^x that accepts 127.5", accepts_127_and_a_half, ear_exp2, 0x42ff0000, WRONG_CODE},
     {"a log2 that is -0 at 1", minus_zero_at_one, ear_log2, 0x3f800000, WRONG_VALUE},
+    {"a log2 that is cut off next to 1", logarithm_cut_off, ear_log2, 0x3f800001, WRONG_VALUE},
+    {"a log2 with 2^-22 added", logarithm_with_a_constant, ear_log2, 0x3f7fffff, WRONG_VALUE},
     {"a log2 whose pieces do not meet", logarithms_that_do_not_meet, ear_log2, 0x3fc00000, OUT_OF_ORDER},
     {"a log2 with its fraction's sign turned", fraction_turned, ear_log2, 0x3fc00000, WRONG_VALUE},
     {"a log2 that accepts subnormals", accepts_subnormals, ear_log2, 0x007fffff, WRONG_CODE},
@@ -228,6 +249,15 @@ static void cuts_as_document_01_says(void)
     group(same == ROOT_ROWS, "the root that cuts off gives document 01's third column, %d of %d", same, ROOT_ROWS);
 }
 
+/* log2 as document 01 had it, before Q2: exact at powers of two, +0 at 1. */
+static bool within_first_bound(const struct function *f, float x, float result)
+{
+    double exact = f->exact(x);
+    if (exact == rint(exact))
+        return bits_of(result) == bits_of((float)exact);
+    return fabs(result - exact) <= 0x1p-21 * fmax(1, fabs(exact));
+}
+
 /* A judge that rejects everything would pass all of the above. */
 static void bounds_are_not_too_tight(void)
 {
@@ -237,6 +267,11 @@ static void bounds_are_not_too_tight(void)
     posing.bound = 0x1p-22;
     struct tally t = survey(&posing);
     group(faults_in(&t) == 0, "the reciprocal root rounded twice keeps the weaker bound 2^-22");
+    posing = *line_of(ear_log2);
+    posing.call = logarithm_cut_off;
+    posing.right = within_first_bound;
+    t = survey(&posing);
+    group(faults_in(&t) == 0, "the log2 that is cut off keeps document 01's bound, 2^-21 max(1, |log2 x|), and the order");
 }
 
 int main(void)

@@ -112,8 +112,7 @@ bool near_logarithm(const struct function *f, float x, float result)
     int exponent;
     if (frexpf(x, &exponent) == 0.5f)
         return bits_of(result) == bits_of((float)(exponent - 1));
-    double exact = f->exact(x);
-    return fabs(result - exact) <= f->bound * fmax(1, fabs(exact));
+    return within_relative(f, x, result);
 }
 
 bool within_absolute(const struct function *f, float x, float result)

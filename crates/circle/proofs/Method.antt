@@ -9,6 +9,7 @@ use lib.Dec.{T, lit<, lit≤}
 use lib.ListN.{length}
 use Rattle.exact.specs.Polynomial.{value}
 use Rattle.exact.specs.Series.{partial, denominator, fourth, LimitNear}
+use Rattle.exact.specs.Circle.{quarter, quarterUnit}
 use Rattle.exact.proofs.Polynomial.{odd, spread}
 use Rattle.exact.proofs.Forms.{add, value-add, length-add}
 use Rattle.exact.proofs.Pieces.{each, below, below-sound, knots, end}
@@ -17,7 +18,6 @@ use Rattle.exact.proofs.Series.{fourth-most}
 use Rattle.exact.proofs.Approximation.{not-above, near-polynomial}
 use Rattle.fixed.proofs.Alternating.{signed}
 use Rattle.circle.specs.Kernel.{kernelFirst, kernelRest}
-use Rattle.exact.proofs.Quarter.{quarter, quarterUnit}
 
 -- all coefficients, for the powers of t ^ 2, in units of 2 ^ -32
 abbrev pub D : ℕ

@@ -10,15 +10,13 @@ use lib.Pow.{pow-pos}
 use lib.Ieee.{Float}
 use Rattle.units.specs.Units.{mag, negative, P, N, Number}
 use Rattle.units.proofs.Size.{mag-lt}
-use Rattle.exact.specs.Circle.{Sine, Cosine, QuarterTurn, bound}
+use Rattle.exact.specs.Circle.{Bound, bound, Sine, Cosine, QuarterTurn, quarter, quarterUnit}
 use Rattle.exact.proofs.Limits.{Both, both-wider}
-use Rattle.exact.proofs.Quarter.{quarter, quarterUnit}
 use Rattle.exact.proofs.Zero.{enclosed}
 use Rattle.fixed.proofs.Either.{sign-bit}
 use Rattle.circle.specs.Phase.{radians}
 use Rattle.circle.specs.Wave.{sizeOf, wave, halfOn, quarterOn, sinPiOf, cosPiOf, sinOf, cosOf}
-use Rattle.circle.specs.Promise.{waveErrorNum, waveErrorDen, Accepts, asFraction, piTimes, openBound}
-use Rattle.circle.proofs.Method.{D}
+use Rattle.circle.specs.Promise.{waveErrorNum, waveErrorDen, piErrorNum, piErrorDen, Accepts, asFraction, piTimes}
 use Rattle.circle.proofs.Pattern.{wave-signed, size-top, units-top}
 use Rattle.circle.proofs.Reduction.{half-arrived}
 use Rattle.circle.proofs.Taken.{sizeBits, half-turns-taken, radians-taken}
@@ -39,6 +37,10 @@ less n = mod-lt n (pow-pos 64)
 
 -- ---- pi x
 
+-- where pi / 2 is c / w and up to d / w more: 17 / 2 ^ 29 + 2 |x| d / w
+abbrev pub openBound : ℕ → ℕ → Float → Bound
+openBound d w x = bound (waveErrorNum * (w * 2 ^ 149) + waveErrorDen * (d * (2 * mag x))) (waveErrorDen * (w * 2 ^ 149))
+
 module _ (x : Float) (h : Number x) where
   abbrev half : ℕ
   half = mag x / 2 ^ 86
@@ -54,32 +56,49 @@ module _ (x : Float) (h : Number x) where
       on : (n : ℕ) → (n % 2 ^ 64 + 2 ^ 62) % 2 ^ 64 ≡ (n + 2 ^ 62) % 2 ^ 64
       on n = omega arith
 
-  -- by our own pi / 2, with 135 2 ^ -32
-  half-near : Both (quarter * (2 * mag x)) (quarterUnit * 2 ^ 149) (P (wave ((half + 2 ^ 62) % 2 ^ 64))) (N (wave ((half + 2 ^ 62) % 2 ^ 64))) (P (wave (half % 2 ^ 64))) (N (wave (half % 2 ^ 64))) (2 ^ 149) 135 D
-  half-near = both-float ((half + 2 ^ 62) % 2 ^ 64) (half % 2 ^ 64) (less (half + 2 ^ 62)) (less half) (half-arrived (mag x) (mag-lt x h))
+  -- cosine and sine of 2 |x| times c / w are within e of the two floats
+  abbrev Close : ℕ → ℕ → Bound → Type 0
+  Close c w e =
+      Both (c * (2 * mag x)) (w * 2 ^ 149) (P (wave ((half + 2 ^ 62) % 2 ^ 64))) (N (wave ((half + 2 ^ 62) % 2 ^ 64))) (P (wave (half % 2 ^ 64))) (N (wave (half % 2 ^ 64))) (2 ^ 149) (e .num) (e .den)
 
-  module _ (c d w : ℕ) (wpos : 0 < w) (turn : QuarterTurn c d w) where
-    -- by any other; 17 2 ^ -29 is 136 2 ^ -32, so that there is room for what is between them
-    any-near : Both (c * (2 * mag x)) (w * 2 ^ 149) (P (wave ((half + 2 ^ 62) % 2 ^ 64))) (N (wave ((half + 2 ^ 62) % 2 ^ 64))) (P (wave (half % 2 ^ 64))) (N (wave (half % 2 ^ 64))) (2 ^ 149)
-        (openBound d w x .num) (openBound d w x .den)
-    any-near = enclosed (2 * mag x) (2 ^ 149) (2 ^ 40) waveErrorNum waveErrorDen wpos (pow-pos 149) (lit< tt) (lit< tt) turn room half-near
-      where
-        room : 135 * waveErrorDen * (quarterUnit * 2 ^ 149 * 2 ^ 40) + D * waveErrorDen * (2 * mag x * 2 ^ 40 + quarterUnit * 2 ^ 149) ≤ waveErrorNum * D * (quarterUnit * 2 ^ 149 * 2 ^ 40)
-        room = through (quarterUnit * 2 ^ 149) (mag x) (le-trans (mul-le-mul-right (2 ^ 34) (le-of-lt (mag-lt x h))) (unfold quarterUnit in lit≤ tt))
-          where
-            through : (Q M : ℕ) → M * 2 ^ 34 ≤ Q → 135 * waveErrorDen * (Q * 2 ^ 40) + D * waveErrorDen * (2 * M * 2 ^ 40 + Q) ≤ waveErrorNum * D * (Q * 2 ^ 40)
-            through Q M l = omega arith
-
-    -- either sign
+  -- so are those of either sign
+  module _ (c w : ℕ) (e : Bound) (near : Close c w e) where
     side : (s : Bool) (m : ℕ) → (c * (2 * cond s 0 m) ≡ cond s 0 (c * (2 * m))) × (c * (2 * cond s m 0) ≡ cond s (c * (2 * m)) 0)
     side true m = (mul-zero c, refl)
     side false m = (refl, mul-zero c)
 
-    pub sinPi-near : Sine (piTimes c w x) (asFraction (sinPiOf x)) (openBound d w x)
-    sinPi-near = let (e, f) = side (negative x) (mag x) in rw (e, f) (sine-joined (negative x) (half % 2 ^ 64) (less half) any-near (sinPiOf x) sinPi-is)
+    sine-close : Sine (piTimes c w x) (asFraction (sinPiOf x)) e
+    sine-close = let (i, j) = side (negative x) (mag x) in rw (i, j) (sine-joined (negative x) (half % 2 ^ 64) (less half) near (sinPiOf x) sinPi-is)
 
-    pub cosPi-near : Cosine (piTimes c w x) (asFraction (cosPiOf x)) (openBound d w x)
-    cosPi-near = let (e, f) = side (negative x) (mag x) in rw (e, f) (cosine-joined (negative x) ((half + 2 ^ 62) % 2 ^ 64) any-near (cosPiOf x) cosPi-is)
+    cosine-close : Cosine (piTimes c w x) (asFraction (cosPiOf x)) e
+    cosine-close = let (i, j) = side (negative x) (mag x) in rw (i, j) (cosine-joined (negative x) ((half + 2 ^ 62) % 2 ^ 64) near (cosPiOf x) cosPi-is)
+
+  -- by our own pi / 2
+  half-near : Close quarter quarterUnit (bound piErrorNum piErrorDen)
+  half-near = both-float ((half + 2 ^ 62) % 2 ^ 64) (half % 2 ^ 64) (less (half + 2 ^ 62)) (less half) (half-arrived (mag x) (mag-lt x h))
+
+  pub sinPi-near : Sine (piTimes quarter quarterUnit x) (asFraction (sinPiOf x)) (bound piErrorNum piErrorDen)
+  sinPi-near = sine-close quarter quarterUnit (bound piErrorNum piErrorDen) half-near
+
+  pub cosPi-near : Cosine (piTimes quarter quarterUnit x) (asFraction (cosPiOf x)) (bound piErrorNum piErrorDen)
+  cosPi-near = cosine-close quarter quarterUnit (bound piErrorNum piErrorDen) half-near
+
+  module _ (c d w : ℕ) (wpos : 0 < w) (turn : QuarterTurn c d w) where
+    -- by any other; 17 / 2 ^ 29 is 136 / 2 ^ 32, so that there is room for what is between them
+    any-near : Close c w (openBound d w x)
+    any-near = enclosed (2 * mag x) (2 ^ 149) (2 ^ 40) waveErrorNum waveErrorDen wpos (pow-pos 149) (lit< tt) (lit< tt) turn room half-near
+      where
+        room : piErrorNum * waveErrorDen * (quarterUnit * 2 ^ 149 * 2 ^ 40) + piErrorDen * waveErrorDen * (2 * mag x * 2 ^ 40 + quarterUnit * 2 ^ 149) ≤ waveErrorNum * piErrorDen * (quarterUnit * 2 ^ 149 * 2 ^ 40)
+        room = through (quarterUnit * 2 ^ 149) (mag x) (le-trans (mul-le-mul-right (2 ^ 34) (le-of-lt (mag-lt x h))) (unfold quarterUnit in lit≤ tt))
+          where
+            through : (Q M : ℕ) → M * 2 ^ 34 ≤ Q → piErrorNum * waveErrorDen * (Q * 2 ^ 40) + piErrorDen * waveErrorDen * (2 * M * 2 ^ 40 + Q) ≤ waveErrorNum * piErrorDen * (Q * 2 ^ 40)
+            through Q M l = omega arith
+
+    pub sinPi-enclosed : Sine (piTimes c w x) (asFraction (sinPiOf x)) (openBound d w x)
+    sinPi-enclosed = sine-close c w (openBound d w x) any-near
+
+    pub cosPi-enclosed : Cosine (piTimes c w x) (asFraction (cosPiOf x)) (openBound d w x)
+    cosPi-enclosed = cosine-close c w (openBound d w x) any-near
 
 -- ---- x itself
 

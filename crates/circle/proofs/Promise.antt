@@ -1,25 +1,20 @@
 -- The four promises: of an accepted x code 0 and the value, of any other code 1; and how the calls end. Assumes nothing.
 use mathlib.Core.Path.{_≡_, refl, sym, subst, _∙_}
-use Prim.Native.Nat.{ℕ, _+_, _*_, _/_, _%_, _^_, _≤_, _<_}
-use native.Mathlib.Nat.{le-trans, le-of-lt, mul-pos, mul-le-mul-right}
+use Prim.Native.Nat.{ℕ, _/_, _%_, _^_, _≤_, _<_}
 use native.Mathlib.Omega.{arith}
 use lib.Dec.{lit<, lit≤}
-use lib.Pow.{pow-pos}
 use lib.Ieee.{Float, binary32, toBits}
 use Rattle.units.specs.Units.{mag, Number}
 use Rattle.units.specs.Answers.{Ends, floatBits}
-use Rattle.units.proofs.Size.{mag-lt}
 use Rattle.units.proofs.Answers.{given, declined, written, untouched}
-use Rattle.exact.specs.Circle.{Signed, Bound, bound, Sine, Cosine}
+use Rattle.exact.specs.Circle.{Signed, bound, Sine, Cosine, QuarterTurn}
 use Rattle.exact.proofs.Limits.{near-wider}
-use Rattle.exact.proofs.Quarter.{quarter, quarterUnit, quarter-unit-pos}
-use Rattle.exact.proofs.Zero.{quarter-turn}
 use Rattle.circle.specs.Phase.{halfTurns, radians}
 use Rattle.circle.specs.Wave.{waveBits, wave, halfOn, quarterOn, sinPiOf, cosPiOf, sinOf, cosOf}
-use Rattle.circle.specs.Promise.{waveErrorNum, waveErrorDen, asFraction, piTimes, openBound, Accepts, SinPi, CosPi, Sin, Cos}
+use Rattle.circle.specs.Promise.{AcceptsPi, Accepts, waveErrorNum, waveErrorDen, piErrorNum, piErrorDen, asFraction, piTimes, SinPi, CosPi, Sin, Cos}
 use Rattle.circle.proofs.Pattern.{wave-pattern}
 use Rattle.circle.proofs.Taken.{sizeBits}
-use Rattle.circle.proofs.Near.{less, wave-number, wave-inside, sinPi-is, cosPi-is, sin-is, cos-is, sinPi-near, cosPi-near, sin-near, cos-near}
+use Rattle.circle.proofs.Near.{less, wave-number, wave-inside, openBound, sinPi-is, cosPi-is, sin-is, cos-is, sinPi-near, cosPi-near, sinPi-enclosed, cosPi-enclosed, sin-near, cos-near}
 use Rattle.circle.proofs.Whole.{sinPi-whole, cosPi-whole}
 
 -- a result that is a wave's is finite, and from -1 to 1
@@ -43,40 +38,40 @@ module _ (x : Float) where
   abbrev half : ℕ
   half = halfTurns (sizeBits x)
 
-  sinPi-promised : Number x → SinPi x 0 (sinPiOf x)
-  sinPi-promised h = record {
-    answers = given sinPiOf x (sinPiOf x) h refl (number-of _ (sinPi-is x h));
-    near = λ a. sinPi-near x h;
-    whole = λ a. sinPi-whole x h;
-    inside = λ a. inside-of _ (sinPi-is x h);
+  sinPi-promised : AcceptsPi x → SinPi x 0 (sinPiOf x)
+  sinPi-promised a = record {
+    answers = given sinPiOf x (sinPiOf x) a refl (number-of _ (sinPi-is x (a .number)));
+    near = λ h. sinPi-near x (a .number);
+    whole = λ h. sinPi-whole x (a .number);
+    inside = λ h. inside-of _ (sinPi-is x (a .number));
   }
 
-  sinPi-refused : ¬ Number x → SinPi x 1 (sinPiOf x)
+  sinPi-refused : ¬ AcceptsPi x → SinPi x 1 (sinPiOf x)
   sinPi-refused n = record { answers = declined sinPiOf x (sinPiOf x) n; near = λ h. absurd (n h); whole = λ h. absurd (n h); inside = λ h. absurd (n h) }
 
-  pub sinPi-success : {before after : ℕ} → Number x → after ≡ waveBits (halfOn half (toBits binary32 x / 2147483648)) → Ends floatBits (SinPi x) 0 before after
+  pub sinPi-success : {before after : ℕ} → AcceptsPi x → after ≡ waveBits (halfOn half (toBits binary32 x / 2147483648)) → Ends floatBits (SinPi x) 0 before after
   unfolding sinPiOf halfOn
-  sinPi-success h e = ended _ (sinPi-promised h) e
+  sinPi-success a e = ended _ (sinPi-promised a) e
 
-  pub sinPi-refusal : {before : ℕ} → ¬ Number x → Ends floatBits (SinPi x) 1 before before
+  pub sinPi-refusal : {before : ℕ} → ¬ AcceptsPi x → Ends floatBits (SinPi x) 1 before before
   sinPi-refusal n = kept (sinPiOf x) (sinPi-refused n)
 
-  cosPi-promised : Number x → CosPi x 0 (cosPiOf x)
-  cosPi-promised h = record {
-    answers = given cosPiOf x (cosPiOf x) h refl (number-of _ (cosPi-is x h));
-    near = λ a. cosPi-near x h;
-    whole = λ a. cosPi-whole x h;
-    inside = λ a. inside-of _ (cosPi-is x h);
+  cosPi-promised : AcceptsPi x → CosPi x 0 (cosPiOf x)
+  cosPi-promised a = record {
+    answers = given cosPiOf x (cosPiOf x) a refl (number-of _ (cosPi-is x (a .number)));
+    near = λ h. cosPi-near x (a .number);
+    whole = λ h. cosPi-whole x (a .number);
+    inside = λ h. inside-of _ (cosPi-is x (a .number));
   }
 
-  cosPi-refused : ¬ Number x → CosPi x 1 (cosPiOf x)
+  cosPi-refused : ¬ AcceptsPi x → CosPi x 1 (cosPiOf x)
   cosPi-refused n = record { answers = declined cosPiOf x (cosPiOf x) n; near = λ h. absurd (n h); whole = λ h. absurd (n h); inside = λ h. absurd (n h) }
 
-  pub cosPi-success : {before after : ℕ} → Number x → after ≡ waveBits (quarterOn half) → Ends floatBits (CosPi x) 0 before after
+  pub cosPi-success : {before after : ℕ} → AcceptsPi x → after ≡ waveBits (quarterOn half) → Ends floatBits (CosPi x) 0 before after
   unfolding cosPiOf quarterOn
-  cosPi-success h e = ended _ (cosPi-promised h) e
+  cosPi-success a e = ended _ (cosPi-promised a) e
 
-  pub cosPi-refusal : {before : ℕ} → ¬ Number x → Ends floatBits (CosPi x) 1 before before
+  pub cosPi-refusal : {before : ℕ} → ¬ AcceptsPi x → Ends floatBits (CosPi x) 1 before before
   cosPi-refusal n = kept (cosPiOf x) (cosPi-refused n)
 
 -- ---- x itself
@@ -127,42 +122,17 @@ module _ {t r : Signed} where
   pub cosine-as-asked : Cosine t r (bound waveErrorNum waveErrorDen) → Cosine t r (bound 1 (2 ^ 22))
   cosine-as-asked h = record { near = near-wider (lit< tt) (lit≤ tt) (h .near) }
 
--- of pi x too, beside what the enclosure leaves open
-module _ (d w : ℕ) (x : Float) (pos : 0 < w) where
-  abbrev asked : Bound
-  asked = bound (w * 2 ^ 149 + 2 ^ 22 * (d * (2 * mag x))) (2 ^ 22 * (w * 2 ^ 149))
+  pub sinPi-as-asked : Sine t r (bound piErrorNum piErrorDen) → Sine t r (bound 1 (2 ^ 22))
+  sinPi-as-asked h = record { near = near-wider (lit< tt) (lit≤ tt) (h .near) }
 
-  less-open : openBound d w x .num * asked .den ≤ asked .num * openBound d w x .den
-  less-open = through (w * 2 ^ 149) (d * (2 * mag x))
-    where
-      through : (X y : ℕ) → (waveErrorNum * X + waveErrorDen * y) * (2 ^ 22 * X) ≤ (X + 2 ^ 22 * y) * (waveErrorDen * X)
-      through X y = omega arith
+  pub cosPi-as-asked : Cosine t r (bound piErrorNum piErrorDen) → Cosine t r (bound 1 (2 ^ 22))
+  cosPi-as-asked h = record { near = near-wider (lit< tt) (lit≤ tt) (h .near) }
 
-  open-pos : 0 < openBound d w x .den
-  open-pos = mul-pos (lit< tt) (mul-pos pos (pow-pos 149))
+-- ---- and of the real sin (pi x) and cos (pi x), for every enclosure of pi / 2: there are some as narrow as one likes
 
-  pub sinPi-as-asked : {t r : Signed} → Sine t r (openBound d w x) → Sine t r asked
-  sinPi-as-asked h = record { near = near-wider open-pos less-open (h .near) }
+module _ {x r : Float} {code : ℕ} (a : AcceptsPi x) (c d w : ℕ) (pos : 0 < w) (turn : QuarterTurn c d w) where
+  pub sinPi-real : SinPi x code r → Sine (piTimes c w x) (asFraction r) (openBound d w x)
+  sinPi-real p = subst (λ (r : Float). Sine (piTimes c w x) (asFraction r) (openBound d w x)) (sym (p .answers .value a)) (sinPi-enclosed x (a .number) c d w pos turn)
 
-  pub cosPi-as-asked : {t r : Signed} → Cosine t r (openBound d w x) → Cosine t r asked
-  cosPi-as-asked h = record { near = near-wider open-pos less-open (h .near) }
-
--- ---- no enclosure as a parameter: at our own pi / 2, cut off after 256 binary places
-
--- 17 / 2 ^ 29 + 1 / 2 ^ 100
-abbrev plainBound : Bound
-plainBound = bound (waveErrorNum * 2 ^ 100 + waveErrorDen) (waveErrorDen * 2 ^ 100)
-
--- of every finite x: what those places leave open is below 1 / 2 ^ 100
-module _ (x : Float) (h : Number x) where
-  left-open : openBound 1 quarterUnit x .num * plainBound .den ≤ plainBound .num * openBound 1 quarterUnit x .den
-  left-open = through (quarterUnit * 2 ^ 149) (mag x) (2 ^ 100) (le-trans (mul-le-mul-right (2 * 2 ^ 100) (le-of-lt (mag-lt x h))) (unfold quarterUnit in lit≤ tt))
-    where
-      through : (X M K : ℕ) → M * (2 * K) ≤ X → (waveErrorNum * X + waveErrorDen * (1 * (2 * M))) * (waveErrorDen * K) ≤ (waveErrorNum * K + waveErrorDen) * (waveErrorDen * X)
-      through X M K l = omega arith
-
-  pub sinPi-plain : {code : ℕ} {r : Float} → SinPi x code r → Sine (piTimes quarter quarterUnit x) (asFraction r) plainBound
-  sinPi-plain p = record { near = near-wider (open-pos 1 quarterUnit x quarter-unit-pos) left-open (p .near h quarter 1 quarterUnit quarter-unit-pos quarter-turn .near) }
-
-  pub cosPi-plain : {code : ℕ} {r : Float} → CosPi x code r → Cosine (piTimes quarter quarterUnit x) (asFraction r) plainBound
-  cosPi-plain p = record { near = near-wider (open-pos 1 quarterUnit x quarter-unit-pos) left-open (p .near h quarter 1 quarterUnit quarter-unit-pos quarter-turn .near) }
+  pub cosPi-real : CosPi x code r → Cosine (piTimes c w x) (asFraction r) (openBound d w x)
+  cosPi-real p = subst (λ (r : Float). Cosine (piTimes c w x) (asFraction r) (openBound d w x)) (sym (p .answers .value a)) (cosPi-enclosed x (a .number) c d w pos turn)

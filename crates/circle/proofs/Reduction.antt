@@ -5,9 +5,10 @@ use native.Mathlib.Nat.{zero-mul, mul-zero, le-trans, le-of-lt, lt-of-lt-of-le, 
 use native.Mathlib.Omega.{arith}
 use lib.Dec.{lit<, lit≤}
 use lib.Pow.{pow-add, pow-pos, pow-mono}
+use Rattle.exact.specs.Circle.{quarter, quarterUnit}
 use Rattle.exact.proofs.Limits.{Both, both-wider}
 use Rattle.exact.proofs.Shift.{moved-to}
-use Rattle.exact.proofs.Quarter.{quarter, quarterUnit, quarter-unit-pos}
+use Rattle.exact.proofs.Quarter.{quarter-unit-pos}
 use Rattle.circle.proofs.Method.{D}
 use Rattle.circle.proofs.Turn.{phase-near}
 use Rattle.circle.proofs.Pattern.{plusOf, minusOf}

@@ -1,7 +1,7 @@
 -- The digits of a float shifted to their place in a phase: m 2 ^ e / 2 ^ 87, cut off, of which 64 digits are left. Assumes nothing.
 use mathlib.Core.Path.{_≡_, sym, ap, _∙_}
 use Prim.Native.Nat.{ℕ, _+_, _-_, _*_, _/_, _%_, _^_, _≤_, _<_}
-use native.Mathlib.Nat.{le-trans, le-of-eq, lt-of-le-of-lt, lt-of-lt-of-le, mul-assoc, mul-lt-mul-of-pos-right, div-le-self, div-eq-of-lt, mul-div-cancel, mul-div-mul-right, mod-eq-of-lt, mul-mod-left}
+use native.Mathlib.Nat.{le-trans, le-of-eq, lt-of-le-of-lt, lt-of-lt-of-le, mul-assoc, mul-lt-mul-of-pos-right, div-le-self, div-eq-of-lt, mul-div-cancel, mul-div-mul-right, mod-eq-of-lt}
 use native.Mathlib.Omega.{arith}
 use lib.Pow.{pow-add, pow-pos, pow-mono}
 
@@ -29,17 +29,10 @@ module _ (m e : ℕ) (few : m < 2 ^ 24) where
       let place : m * 2 ^ e ≡ m * 2 ^ (e - 63) * 2 ^ 63 = ap (λ (n : ℕ). m * n) (power (e - 63) 63 e (omega arith)) ∙ sym (mul-assoc m (2 ^ (e - 63)) (2 ^ 63)) in
       ap (λ (n : ℕ). n / 2 ^ 24) (mod-eq-of-lt fits) ∙ sym (ap (λ (n : ℕ). n / 2 ^ 87 % 2 ^ 64) place ∙ ap (λ (n : ℕ). n % 2 ^ 64) (mul-div-mul-right (m * 2 ^ (e - 63)) (2 ^ 24) (pow-pos 63)) ∙ mod-eq-of-lt small)
 
-  left : 87 ≤ e → m * 2 ^ e / 2 ^ 87 ≡ m * 2 ^ (e - 87)
-  left h =
-      ap (λ (n : ℕ). m * n / 2 ^ 87) (power (e - 87) 87 e (omega arith)) ∙ ap (λ (n : ℕ). n / 2 ^ 87) (sym (mul-assoc m (2 ^ (e - 87)) (2 ^ 87))) ∙ mul-div-cancel (m * 2 ^ (e - 87)) (pow-pos 87)
-
   -- above it, left
   pub shifted-left : 87 ≤ e → m * 2 ^ (e - 87) % 2 ^ 64 ≡ shifted
-  shifted-left h = sym (ap (λ (n : ℕ). n % 2 ^ 64) (left h))
-
-  -- far above it there are whole turns alone
-  pub shifted-whole : 151 ≤ e → 0 ≡ shifted
-  shifted-whole h =
-      sym
-      (ap (λ (n : ℕ). n % 2 ^ 64) (left (omega arith) ∙ ap (λ (n : ℕ). m * n) (power (e - 151) 64 (e - 87) (omega arith)) ∙ sym (mul-assoc m (2 ^ (e - 151)) (2 ^ 64)))
-      ∙ mul-mod-left (m * 2 ^ (e - 151)) (2 ^ 64))
+  shifted-left h = sym (ap (λ (n : ℕ). n % 2 ^ 64) left)
+    where
+      left : m * 2 ^ e / 2 ^ 87 ≡ m * 2 ^ (e - 87)
+      left =
+          ap (λ (n : ℕ). m * n / 2 ^ 87) (power (e - 87) 87 e (omega arith)) ∙ ap (λ (n : ℕ). n / 2 ^ 87) (sym (mul-assoc m (2 ^ (e - 87)) (2 ^ 87))) ∙ mul-div-cancel (m * 2 ^ (e - 87)) (pow-pos 87)

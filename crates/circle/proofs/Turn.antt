@@ -11,8 +11,9 @@ use borrow.Author.Tests.{eq-eqb, ne-eqb, lt-ltb, le-ltb}
 use Rattle.units.proofs.Naturals.{le-or-lt}
 use Rattle.exact.specs.Polynomial.{value}
 use Rattle.exact.proofs.Approximation.{near-instead}
+use Rattle.exact.specs.Circle.{quarter, quarterUnit}
 use Rattle.exact.proofs.Limits.{near-wider, Both, both-wider}
-use Rattle.exact.proofs.Quarter.{quarter, quarterUnit, fine, fine-pos}
+use Rattle.exact.proofs.Quarter.{fine, fine-pos}
 use Rattle.exact.proofs.Turns.{turned0, turned1, turned2, turned3}
 use Rattle.circle.specs.Kernel.{quarterSine}
 use Rattle.circle.specs.Wave.{forward, intoQuarter, placeOf, sizeOf}

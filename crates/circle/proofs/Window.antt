@@ -10,7 +10,7 @@ use lib.Dec.{T, eqb, eqb→eq}
 use lib.Pow.{pow-pos}
 use lib.Ieee.Fits.{and-l, and-r}
 use Rattle.circle.specs.Phase.{windowOf}
-use Rattle.exact.proofs.Quarter.{quarter, quarterUnit}
+use Rattle.exact.specs.Circle.{quarter, quarterUnit}
 
 -- a test of every number below k
 unfoldable pub all : (ℕ → Bool) → ℕ → Bool

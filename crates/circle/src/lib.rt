@@ -9,8 +9,8 @@ ghost use Rattle.circle.specs.Kernel.{quarterSine};
 ghost use Rattle.circle.specs.Wave.{placeOf, waveBits, halfOn, quarterOn};
 ghost use Rattle.circle.specs.Promise.{SinPi, CosPi, Sin, Cos};
 
-// The pattern that the sizes of finite floats are below.
-const INFINITY: u32 = 0x7f80_0000;
+// The pattern of 2^22, which phases of pi x are below.
+const LATEST: u32 = 0x4a80_0000;
 
 // The pattern of 8192.
 const LARGEST: u32 = 0x4600_0000;
@@ -74,13 +74,13 @@ fn cosine(phase: u64) -> u32
     wave_bits(std::num::wrapping_add_u64(phase, 4611686018427387904))
 }
 
-// sin(pi x) for every finite x; code 1 and nothing written where x is a NaN or an infinity.
+// sin(pi x), |x| < 2^22; code 1 and nothing written where x is anything else.
 pub fn sinpi(x: f32, out: &mut u32) -> u32
     ensures { λ code. ⌜ Ends floatBits (SinPi x) code (now (out .entry)) (now (out .exit)) ⌝ }
 {
     let b = fixed::bits_of(x);
     let size = b % 2147483648;
-    if size < INFINITY {
+    if size < LATEST {
         *out = sine(phase::half_turns(size), b / 2147483648);
         return 0;
     }
@@ -92,7 +92,7 @@ pub fn cospi(x: f32, out: &mut u32) -> u32
     ensures { λ code. ⌜ Ends floatBits (CosPi x) code (now (out .entry)) (now (out .exit)) ⌝ }
 {
     let size = fixed::bits_of(x) % 2147483648;
-    if size < INFINITY {
+    if size < LATEST {
         *out = cosine(phase::half_turns(size));
         return 0;
     }

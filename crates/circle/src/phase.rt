@@ -4,8 +4,9 @@ ghost use mathlib.Core.Path.{_≡_};
 ghost use Prim.Native.Nat.{_+_, _-_, _*_, _/_, _%_, _^_, _<_, _≤_};
 ghost use Rattle.circle.specs.Phase.{halfTurns, wordOf, windowOf, radians};
 
-// pi times the size: half as many turns. The digits are shifted to their place; above it whole turns fall out, and below it the rest.
+// pi times the size, below 2^22: half as many turns. The digits are shifted to their place; above it whole turns fall out, and below it the rest.
 pub fn half_turns(b: u32) -> u64
+    requires { ⌜ b < 149 * 8388608 ⌝ }
     ensures { λ r. ⌜ r ≡ halfTurns b ⌝ }
 {
     let m = (b % 8388608 + 8388608) as u64;
@@ -16,10 +17,7 @@ pub fn half_turns(b: u32) -> u64
     if e < 87 {
         return (m << (e - 63)) / 16777216;
     }
-    if e < 151 {
-        return m << (e - 87);
-    }
-    0
+    m << (e - 87)
 }
 
 pub struct Words(pub u32, pub u32, pub u32);

@@ -35,7 +35,7 @@ pub extern "C" fn ear_exp2(x: f32, out: &mut u32) -> u32
     powers::exp2(x, out)
 }
 
-// The logarithm to base two of every bit pattern: within 2 ^ -21 * max(1, |log2 x|), or code 1 and nothing written.
+// The logarithm to base two of every bit pattern: within 33 / 2^29 of it, relatively, and of 1 it is +0; or code 1 and nothing written.
 #[no_mangle]
 pub extern "C" fn ear_log2(x: f32, out: &mut u32) -> u32
     ensures { λ code. ⌜ Ends floatBits (Log2 x) code (now (out .entry)) (now (out .exit)) ⌝ }
@@ -43,7 +43,7 @@ pub extern "C" fn ear_log2(x: f32, out: &mut u32) -> u32
     logs::log2(x, out)
 }
 
-// sin(pi x) of every finite bit pattern: within 17 / 2^29 of it, or code 1 and nothing written.
+// sin(pi x) of every bit pattern below 2^22 in size: within 17 / 2^29 of it, or code 1 and nothing written.
 #[no_mangle]
 pub extern "C" fn ear_sinpi(x: f32, out: &mut u32) -> u32
     ensures { λ code. ⌜ Ends floatBits (SinPi x) code (now (out .entry)) (now (out .exit)) ⌝ }

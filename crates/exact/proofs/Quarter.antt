@@ -6,24 +6,17 @@ use native.Mathlib.Omega.{arith}
 use lib.Dec.{T, leb, leb→le}
 use lib.Pow.{pow-pos}
 use Rattle.exact.specs.Series.{partial, denominator, fourth}
+use Rattle.exact.specs.Circle.{quarter, quarterUnit}
 use Rattle.exact.proofs.Series.{over-pos, partial-grows, partial-tail, fourth-most}
 use Rattle.exact.proofs.Rotation.{Known}
 
 -- ---- the fraction
 
--- the whole part of pi / 2 times 2 ^ 256
-unfoldable pub quarter : ℕ
-quarter = 0x1921fb54442d18469898cc51701b839a252049c1114cf98e804177d4c76273644
-
--- and its denominator
-unfoldable pub quarterUnit : ℕ
-quarterUnit = 2 ^ 256
-
 -- a turn by it is a quarter turn within 1 / fine
 unfoldable pub fine : ℕ
 fine = 2 ^ 240
 
--- it is above zero
+-- its denominator is above zero
 pub quarter-unit-pos : 0 < quarterUnit
 unfolding quarterUnit
 quarter-unit-pos = pow-pos 256

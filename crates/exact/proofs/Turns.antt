@@ -4,13 +4,14 @@ use Prim.Native.Nat.{ℕ, zero, suc, _+_, _*_, _/_, _%_, _^_, _≤_, _<_}
 use native.Mathlib.Nat.{zero-add, zero-mul, div-add-mod, mul-comm, mul-assoc, mul-pos, mul-le-mul-right}
 use native.Mathlib.Omega.{arith}
 use Rattle.exact.specs.Series.{partial, denominator, fourth}
+use Rattle.exact.specs.Circle.{quarter, quarterUnit}
 use Rattle.exact.proofs.Series.{over-scale, partial-scale}
 use Rattle.exact.proofs.Addition.{addition}
 use Rattle.exact.proofs.Within.{Within}
 use Rattle.exact.proofs.Rotation.{Known, Rotated, rotated}
 use Rattle.exact.proofs.Round.{bounded}
 use Rattle.exact.proofs.Limits.{near-minus, near-through, Both, both-wider, both-scaled}
-use Rattle.exact.proofs.Quarter.{quarter, quarterUnit, fine, quarter-unit-pos, fine-pos, quarter-near}
+use Rattle.exact.proofs.Quarter.{fine, quarter-unit-pos, fine-pos, quarter-near}
 
 -- ---- one quarter
 

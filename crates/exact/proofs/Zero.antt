@@ -7,13 +7,13 @@ use native.Mathlib.Omega.{arith}
 use lib.Dec.{leb→le}
 use lib.Pow.{pow-add, pow-pos}
 use Rattle.exact.specs.Series.{partial, denominator, fourth}
-use Rattle.exact.specs.Circle.{QuarterTurn}
+use Rattle.exact.specs.Circle.{QuarterTurn, quarter, quarterUnit}
 use Rattle.exact.proofs.Series.{over-pos, over-scale, partial-scale}
 use Rattle.exact.proofs.Addition.{Added, addition}
 use Rattle.exact.proofs.Early.{cosine-most, cosine-least, cosine-plus, sine-least}
 use Rattle.exact.proofs.Limits.{Both, both-wider}
 use Rattle.exact.proofs.Shift.{moved-to}
-use Rattle.exact.proofs.Quarter.{quarter, quarterUnit, sharp, quarter-unit-pos, quarter-above, next-beneath}
+use Rattle.exact.proofs.Quarter.{sharp, quarter-unit-pos, quarter-above, next-beneath}
 
 -- ---- cosine is above zero up to quarter / quarterUnit
 

@@ -1,5 +1,5 @@
 -- Sine, cosine and the quarter turn, by the power series; of an angle's plus and minus one is zero. Definitions only.
-use Prim.Native.Nat.{ℕ, _+_, _*_, _≤_, _<_}
+use Prim.Native.Nat.{ℕ, _+_, _*_, _^_, _≤_, _<_}
 use Rattle.exact.specs.Series.{partial, denominator, fourth, LimitNear, LimitPlus}
 
 -- a fraction of either sign, (plus - minus) / per, as a float is P - N units
@@ -49,3 +49,11 @@ pub record QuarterTurn (c d w : ℕ) : Type 0 where
   pub positive : 0 < t
   pub up-to : s * w ≤ (c + d) * t
   pub after : CosineMinus s t
+
+-- pi / 2 cut off after 256 binary places; `quarter-turn` in proofs/Zero.antt shows that it is
+unfoldable pub quarter : ℕ
+quarter = 0x1921fb54442d18469898cc51701b839a252049c1114cf98e804177d4c76273644
+
+-- and its denominator
+unfoldable pub quarterUnit : ℕ
+quarterUnit = 2 ^ 256

@@ -4,4 +4,5 @@ pub mod Reduction
 pub mod Order
 pub mod Rounding
 pub mod Relative
+pub mod Asked
 pub mod Logarithm

@@ -8,7 +8,7 @@ use native.Mathlib.Omega.{arith}
 use lib.Ieee.{Float, binary32, ofBits}
 use Rattle.units.specs.Units.{mag, P, N, Number, Le}
 use Rattle.units.proofs.Naturals.{le-or-lt}
-use Rattle.units.proofs.Signs.{one-sided, plus-of, minus-of}
+use Rattle.units.proofs.Signs.{plus-of, minus-of}
 use Rattle.units.specs.Answers.{Ends, floatBits}
 use Rattle.units.proofs.Answers.{given, declined, written, untouched}
 use Rattle.fixed.specs.Rounded.{nearestBits}
@@ -19,7 +19,8 @@ use Rattle.logs.specs.Fixed.{FixedLog2}
 use Rattle.logs.proofs.Reduction.{reading, whole-fixed}
 use Rattle.logs.proofs.Order.{fixed-least, fixed-most, fixed-order}
 use Rattle.logs.proofs.Rounding.{normal, unitsOf, zero-units, units-order, near-most, near-least, whole-units, sign-above, sign-below, rounded-back}
-use Rattle.logs.proofs.Relative.{Within, fixed-below, fixed-above, within, near-below, near-above}
+use Rattle.logs.proofs.Relative.{InSteps, in-steps, mirrored, around}
+use Rattle.logs.proofs.Asked.{positive, negative}
 
 -- ---- in fixed point
 -- what the program computes keeps the promise
@@ -68,18 +69,13 @@ module _ (x : Float) (a : Accepts x) where
   unfolding log2Of
   made = steps w few
 
-  -- within 33 parts in 2 ^ 29 of the logarithm, relatively: the strongest law of the result
-  pub log2-relative : Within 33 (2 ^ 29) (mag x) (2 ^ 149) (P (log2Of x)) (N (log2Of x))
-  log2-relative =
-      rw (made .plus, made .minus)
-      (within (mag x) (2 ^ 149) (2 ^ 95) (stepsAbove w) (stepsBelow w) (unitsOf (stepsAbove w)) (unitsOf (stepsBelow w)) refl
-      (near-most (stepsAbove w) (omega (arith, few))) (near-least (stepsAbove w) (omega (arith, few))) (near-most (stepsBelow w) (omega arith)) (near-least (stepsBelow w) (omega arith))
-      (fixed-below (mag x) w (reading x a)) (fixed-above (mag x) w (reading x a)))
+  in-fixed-point : InSteps (mag x) (2 ^ 149) (stepsAbove w) (stepsBelow w)
+  in-fixed-point = in-steps (mag x) w (reading x a)
 
   log2-near : NearLog log2ErrorNum log2ErrorDen x (log2Of x)
   log2-near = record {
-    least = λ p q h b. near-below (mag x) (2 ^ 149) (P (log2Of x)) (N (log2Of x)) p q (one-sided (log2Of x)) log2-relative (b .least) (b .most);
-    most = λ p q h b. near-above (mag x) (2 ^ 149) (P (log2Of x)) (N (log2Of x)) p q (one-sided (log2Of x)) log2-relative (b .least) (b .most);
+    above = λ h. rw (made .plus) (around in-fixed-point h (unitsOf (stepsAbove w)) (near-most (stepsAbove w) (omega (arith, few))) (near-least (stepsAbove w) (omega (arith, few))));
+    below = λ h. rw (made .minus) (around (mirrored in-fixed-point) h (unitsOf (stepsBelow w)) (near-most (stepsBelow w) (omega arith)) (near-least (stepsBelow w) (omega arith)));
   }
 
   log2-whole : (k : ℕ) → mag x ≡ 2 ^ k → P (log2Of x) + 149 * 2 ^ 149 ≡ k * 2 ^ 149 + N (log2Of x)
@@ -113,8 +109,10 @@ promised : (x : Float) → Accepts x → Log2 x 0 (log2Of x)
 promised x a = record {
   answers = given log2Of x (log2Of x) a refl (made x a .number);
   near = λ h. log2-near x a;
-  whole = λ h. log2-whole x a;
+  below-one = λ h. negative (log2-near x a);
   one = λ h. log2-one x a;
+  above-one = λ h. positive (log2-near x a);
+  whole = λ h. log2-whole x a;
   order = λ h. log2-order x a;
 }
 
@@ -123,8 +121,10 @@ refused : (x : Float) → ¬ Accepts x → Log2 x 1 (log2Of x)
 refused x n = record {
   answers = declined log2Of x (log2Of x) n;
   near = λ h. absurd (n h);
-  whole = λ h. absurd (n h);
+  below-one = λ h. absurd (n h);
   one = λ h. absurd (n h);
+  above-one = λ h. absurd (n h);
+  whole = λ h. absurd (n h);
   order = λ h. absurd (n h);
 }
 

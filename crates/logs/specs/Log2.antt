@@ -1,6 +1,6 @@
 -- The promise of log2. Definitions only.
 use mathlib.Core.Path.{_≡_}
-use Prim.Native.Nat.{ℕ, _+_, _*_, _^_, _≤_}
+use Prim.Native.Nat.{ℕ, _+_, _-_, _*_, _^_, _≤_, _<_}
 use lib.Ieee.{Float, binary32, ofBits}
 use Rattle.exact.specs.Power.{AtMost, AtLeast}
 use Rattle.units.specs.Units.{mag, P, N, Number, Le}
@@ -13,33 +13,34 @@ pub record Accepts (x : Float) : Type 0 where
   pub at-least-zero : N x ≡ 0
   pub normal : 2 ^ 23 ≤ mag x
 
--- |log2 x| ≤ p / q
-pub record LogUpTo (p q : ℕ) (x : Float) : Type 0 where
-  pub least : AtLeast (mag x) (2 ^ 149) 0 p q
-  pub most : AtMost (mag x) (2 ^ 149) p 0 q
+-- t / (1 + a / b) ≤ log2 (n / d) ≤ t / (1 - a / b), for t of T units of 2 ^ -149
+pub record AroundLog (a b T n d : ℕ) : Type 0 where
+  pub least : AtLeast n d (T * b) 0 (2 ^ 149 * (b + a))
+  pub most : AtMost n d (T * b) 0 (2 ^ 149 * (b - a))
 
--- |r - log2 x| ≤ (a / b) max (1, |log2 x|): (a / b) (p / q) is enough for every fraction p / q that is at least 1 and at least |log2 x|.
--- r is (P r - N r) / U with U = 2 ^ 149, so r - (a / b) (p / q) is (P r b q - (N r b q + a p U)) / (U b q), and likewise above
+-- r is within a / b of log2 x, relatively: from 1 on r / (1 + a / b) ≤ log2 x ≤ r / (1 - a / b), and up to 1 the same of -r and log2 (1 / x)
 pub record NearLog (a b : ℕ) (x r : Float) : Type 0 where
-  pub least : (p q : ℕ) → q ≤ p → LogUpTo p q x → AtLeast (mag x) (2 ^ 149) (P r * (b * q)) (N r * (b * q) + a * p * 2 ^ 149) (2 ^ 149 * (b * q))
-  pub most : (p q : ℕ) → q ≤ p → LogUpTo p q x → AtMost (mag x) (2 ^ 149) (P r * (b * q) + a * p * 2 ^ 149) (N r * (b * q)) (2 ^ 149 * (b * q))
+  pub above : 2 ^ 149 ≤ mag x → AroundLog a b (P r) (mag x) (2 ^ 149)
+  pub below : mag x ≤ 2 ^ 149 → AroundLog a b (N r) (2 ^ 149) (mag x)
 
--- the promised error, 1 / 2 ^ 21, as document 01 has it
+-- the proved relative error, 33 / 2 ^ 29: the last rounding is 32, and the polynomials and their floors share the rest. Change request Q2 asks for 1 / 2 ^ 21
 abbrev pub log2ErrorNum : ℕ
-log2ErrorNum = 1
+log2ErrorNum = 33
 
 abbrev pub log2ErrorDen : ℕ
-log2ErrorDen = 2 ^ 21
+log2ErrorDen = 2 ^ 29
 
 -- the whole promise of x, answered by a code and the result r
 pub record Log2 (x : Float) (code : ℕ) (r : Float) : Type 0 where
   -- codes, the value
   pub answers : Answers Accepts log2Of x code r
-  -- |r - log2 x| ≤ 2 ^ -21 max (1, |log2 x|), of the real logarithm
+  -- within 33 / 2 ^ 29 of the real number log2 x, relatively
   pub near : Accepts x → NearLog log2ErrorNum log2ErrorDen x r
+  -- the logarithm's sign: negative below 1, +0 at 1, positive above
+  pub below-one : Accepts x → mag x < 2 ^ 149 → 0 < N r
+  pub one : Accepts x → mag x ≡ 2 ^ 149 → r ≡ ofBits binary32 0
+  pub above-one : Accepts x → 2 ^ 149 < mag x → 0 < P r
   -- exact at powers of two: of 2 ^ k units it is k - 149
   pub whole : Accepts x → (k : ℕ) → mag x ≡ 2 ^ k → P r + 149 * 2 ^ 149 ≡ k * 2 ^ 149 + N r
-  -- of 1 it is +0
-  pub one : Accepts x → mag x ≡ 2 ^ 149 → r ≡ ofBits binary32 0
   -- a larger input never gives a smaller output
   pub order : Accepts x → (x′ : Float) → Accepts x′ → Le x′ x → Le (log2Of x′) r

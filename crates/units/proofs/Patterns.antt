@@ -137,6 +137,18 @@ module _ (S g : ℕ) (s : Shape S g) (x : Float) where
       let t = packed-of x n in
       rw (t .units) (packed-lt S g (t .m) (t .k) s (t .shape) (rw (t .size-bits) at l))
 
+  -- the same where the test is strict
+  pub within-less : packed S g ≤ 2139095040 → T (fits binary32 x) → toBits binary32 x % 2147483648 < packed S g → Number x × (mag x < S * 2 ^ g)
+  within-less top f l =
+      let n = finite-below x f (lt-of-lt-of-le l top) in
+      let t = packed-of x n in
+      (n, rw (t .units) (packed-lt (t .m) (t .k) S g (t .shape) s (rw (t .size-bits) at l)))
+
+  pub beyond-or-at : Number x → packed S g ≤ toBits binary32 x % 2147483648 → S * 2 ^ g ≤ mag x
+  beyond-or-at n l =
+      let t = packed-of x n in
+      rw (t .units) (packed-le S g (t .m) (t .k) s (t .shape) (rw (t .size-bits) at l))
+
 -- ---- a pattern that is no NaN's is that of its float
 pub pattern-back : (b : ℕ) → b < 4294967296 → T (not (nanBits binary32 b)) → toBits binary32 (ofBits binary32 b) ≡ b
 pattern-back b small n = toBits-ofBits binary32 b small (subst (λ (t : Bool). T (not t)) (nanBits-is binary32 b) n)

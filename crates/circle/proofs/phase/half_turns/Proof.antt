@@ -2,7 +2,7 @@
 use borrow.Author.Needs.{needs}
 use native.Mathlib.Omega.{arith}
 use Rattle.circle.specs.Phase.{significandOf, exponentField, halfTurns}
-use Rattle.circle.proofs.Shifts.{shifted-out, shifted-right, shifted-left, shifted-whole}
+use Rattle.circle.proofs.Shifts.{shifted-out, shifted-right, shifted-left}
 use Rattle.circle.proofs.phase.half_turns.Statement.{statement}
 use Rattle.circle.proofs.phase.half_turns.Tie as tie
 
@@ -34,11 +34,7 @@ shl-result-2 c = search needs
 
 returns-3 : tie.Need-returns-3
 unfolding halfTurns
-returns-3 c = let b = c .before .before .before .args .b in shifted-left (significandOf b) (exponentField b) (omega arith) (omega arith)
-
-returns-4 : tie.Need-returns-4
-unfolding halfTurns
-returns-4 c = let b = c .before .before .before .args .b in shifted-whole (significandOf b) (exponentField b) (omega arith) (omega arith)
+returns-3 c = let b = c .before .before .args .b in shifted-left (significandOf b) (exponentField b) (omega arith) (omega arith)
 
 pub half-turns-spec : {M : Type 1} → statement M
-half-turns-spec = tie.close (tie.spec add-m cast-m returns cast-result shl-result returns-2 cast-result-2 shl-result-2 returns-3 returns-4)
+half-turns-spec = tie.close (tie.spec add-m cast-m returns cast-result shl-result returns-2 cast-result-2 shl-result-2 returns-3)
