@@ -40,7 +40,9 @@ enum ear_code {
  *
  * Accepts: every finite x >= 0, -0 and subnormals included.
  * Result:  the float nearest to the root of x. No other float is as near: a
- *          tie does not occur. Of +0 it is +0, of -0 it is -0.
+ *          tie does not occur. Of +0 it is +0, of -0 it is -0. This function has
+ *          only one right answer for each input: whoever keeps the promise gives
+ *          the same bits.
  * Order:   never falls as x grows.
  * Refuses: NaN, both infinities and every x < 0 with EAR_OUT_OF_RANGE; *out
  *          stays as it was.
@@ -52,7 +54,10 @@ uint32_t ear_sqrt(float x, float *out);
  *
  * Accepts: every finite x > 0, subnormals included.
  * Result:  the float nearest to 1 / sqrt(x). No other float is as near: a tie
- *          does not occur. So the relative error is at most 2^-24.
+ *          does not occur. So the relative error is at most 2^-24. This function
+ *          has only one right answer for each input: whoever keeps the promise
+ *          gives the same bits. (1 divided by the nearest root is another float
+ *          for a quarter of all x.)
  * Order:   never rises as x grows.
  * Refuses: NaN, both infinities, both zeros and every x < 0 with
  *          EAR_OUT_OF_RANGE; *out stays as it was.

@@ -31,6 +31,7 @@ float newlib_cosf(float x);
 OTHER(newlib_root, 0.0f, FLT_MAX, newlib_sqrtf(x))
 OTHER(newlib_reciprocal, 0x1p-149f, FLT_MAX, 1 / newlib_sqrtf(x))
 OTHER(glibc_reciprocal, 0x1p-149f, FLT_MAX, 1 / sqrtf(x))
+OTHER(reciprocal_to_four, 1.0f, 0x1.fffffep1f, 1 / sqrtf(x))
 OTHER(newlib_power, -126.0f, 127.0f, newlib_powf(2.0f, x))
 OTHER(glibc_power, -126.0f, 127.0f, exp2f(x))
 OTHER(newlib_logarithm, 0x1p-126f, FLT_MAX, newlib_log2f(x))
@@ -45,6 +46,7 @@ static const struct function functions[] = {
     {"newlib sqrtf", newlib_root, 0.0f, FLT_MAX, sqrt, nearest_root, 0, RISES, NULL},
     {"newlib 1/sqrtf", newlib_reciprocal, 0x1p-149f, FLT_MAX, reciprocal_root, nearest_reciprocal_root, 0, FALLS, NULL},
     {"glibc 1/sqrtf", glibc_reciprocal, 0x1p-149f, FLT_MAX, reciprocal_root, nearest_reciprocal_root, 0, FALLS, NULL},
+    {"1/sqrtf from 1 up to 4", reciprocal_to_four, 1.0f, 0x1.fffffep1f, reciprocal_root, nearest_reciprocal_root, 0, FALLS, NULL},
     {"newlib powf", newlib_power, -126.0f, 127.0f, exp2, near_power, 515 * 0x1p-33, RISES, NULL},
     {"glibc exp2f", glibc_power, -126.0f, 127.0f, exp2, near_power, 515 * 0x1p-33, RISES, NULL},
     {"newlib log2f", newlib_logarithm, 0x1p-126f, FLT_MAX, binary_logarithm, near_logarithm, 33 * 0x1p-29, RISES, NULL},

@@ -1,17 +1,17 @@
 -- The nearest float, from two tests on whole numbers. A number ρ above zero is known only by which sums of two floats lie above 2 ρ (`Over`) and which below it (`Under`).
 -- Where 2 S + 1 half steps are above and 2 S - 1 half steps below, the float of S steps is nearer to ρ than every other float. Assumes nothing.
-use mathlib.Core.Path.{_≡_, sym, ap, _∙_, subst}
+use mathlib.Core.Path.{_≡_, refl, sym, ap, _∙_, subst}
 use mathlib.Core.Logic.{_⊎_, inl, inr}
 use mathlib.Core.Bool.{false}
 use Prim.Native.Nat.{ℕ, _+_, _-_, _*_, _^_, _≤_, _<_}
 use native.Mathlib.Nat.{le-trans, le-of-eq, lt-of-lt-of-le, not-le-of-lt, eq-or-lt-of-le, mul-le-mul-right}
 use native.Mathlib.Omega.{arith}
-use lib.Ieee.{Float}
+use lib.Ieee.{Float, binary32, ofBits}
 use Rattle.units.specs.Units.{mag, P, N, Number, Le, Lt}
 use Rattle.units.proofs.Naturals.{le-or-lt}
-use Rattle.units.proofs.Signs.{sides, plus-of, minus-of}
+use Rattle.units.proofs.Signs.{sides, size-sum, plus-of, minus-of}
 use Rattle.units.proofs.Gaps.{next-above, next-below}
-use Rattle.units.proofs.Bits.{Is}
+use Rattle.units.proofs.Bits.{Is, put-positive, one-float}
 
 -- the number that S steps of u units are nearest to, known by its tests on sums of two floats
 pub record Middle (Over Under : ℕ → Type 0) (S u : ℕ) : Type 0 where
@@ -89,3 +89,33 @@ in-order Over Under apart r r′ up down = go (le-or-lt (P r′ + N r) (P r + N 
     go : (P r′ + N r ≤ P r + N r′) ⊎ (P r + N r′ < P r′ + N r) → Le r′ r
     go (inl l) = l
     go (inr l) = absurd (clash l (down l))
+
+-- ---- one float only: a number has at most one nearest float
+
+-- r is nearest to the number: of every other finite float z, the number lies on r's side of the middle of r and z
+pub record Nearest (Over Under : ℕ → Type 0) (r : Float) : Type 0 where
+  pub from-above : (z : Float) → Number z → Lt r z → (N r + N z < P r + P z) × Over (P r + P z - (N r + N z))
+  pub from-below : (z : Float) → Number z → Lt z r → (P r + P z < N r + N z) ⊎ Under (P r + P z - (N r + N z))
+
+-- zero is nearest only to what is below half of the least float
+not-zero : (Over Under : ℕ → Type 0) (r : Float) → Nearest Over Under r → (Over 1 → ⊥) → 0 < mag r
+not-zero Over Under r n small = elim (le-or-lt (mag r) 0) [
+  | inl l ↦
+      let p : P least ≡ 1 = plus-of least (least-is .sign) ∙ least-is .units in
+      let m : N least ≡ 0 = minus-of least (least-is .sign) in
+      absurd (small (subst Over (omega (arith, size-sum r)) (n .from-above least (least-is .number) (omega (arith, size-sum r)) .1)))
+  | inr l ↦ l
+]
+  where
+    least : Float
+    least = ofBits binary32 1
+
+    least-is : Is least false 1
+    least-is = put-positive 1 0 (inl refl) (omega arith) (omega arith)
+
+-- so two that are both nearest are the same float, where zero is not near
+pub one-nearest : (Over Under : ℕ → Type 0) → ((s : ℕ) → Over s → Under s → ⊥) → (Over 1 → ⊥) → (r r′ : Float) → Number r → Number r′ → Nearest Over Under r → Nearest Over Under r′ → r ≡ r′
+one-nearest Over Under apart small r r′ h h′ n n′ =
+    let a : Le r′ r = in-order Over Under apart r r′ (n .from-above r′ h′) (n′ .from-below r h) in
+    let b : Le r r′ = in-order Over Under apart r′ r (n′ .from-above r h) (n .from-below r′ h′) in
+    one-float r r′ h h′ (omega arith) (not-zero Over Under r n small)

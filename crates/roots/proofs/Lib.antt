@@ -3,3 +3,4 @@ pub mod Steps
 pub mod Range
 pub mod SquareRoot
 pub mod ReciprocalRoot
+pub mod Unique

@@ -9,7 +9,7 @@ use mathlib.Core.Bool.{Bool, true, false, not, cond}
 use lib.Dec.{T, eqb, eqb→eq, not-T}
 use borrow.Author.Tests.{le-leb, lt-leb, le-ltb}
 use lib.Ieee.{Float, nan, inf, fin, binary32, size, odd, ofFields, ofBits, toBits, nanBits}
-use lib.Ieee.Bits.{cond-no, ofBits-fits, nanBits-above}
+use lib.Ieee.Bits.{cond-no, ofBits-fits, ofBits-toBits, nanBits-above}
 use lib.Pow.{pow-add, pow-pos}
 use lib.Ieee.Digits.{size-lt, size-le, size-reaches}
 use lib.Ieee.Exact.{HasValue, odd-sign}
@@ -17,7 +17,7 @@ use lib.Ieee.Scale.{finite}
 use Rattle.units.specs.Units.{mag, negative, P, N, Number}
 use Rattle.units.proofs.Naturals.{le-or-lt, pow-back-lt}
 use Rattle.units.proofs.Size.{value-mag}
-use Rattle.units.proofs.Signs.{size-sum, sign-plus}
+use Rattle.units.proofs.Signs.{size-sum, sign-plus, one-side}
 use Rattle.units.proofs.Gaps.{multiple}
 
 -- x is the finite float with the sign s and u units
@@ -160,3 +160,9 @@ pattern-normal x h l =
       digits = lt-of-mul-lt-mul-right (2 ^ k) (lt-of-le-of-lt (le-of-eq (sym is)) hi);
       bits = pattern x h ∙ add-assoc (signBit (negative x)) (k * 8388608) (X / 2 ^ k) ∙ ap (λ (n : ℕ). signBit (negative x) + (k * 8388608 + n)) (ap (λ (n : ℕ). n / 2 ^ k) is ∙ mul-div-cancel m (pow-pos k));
     }
+
+-- two finite floats that are one number, and not zero, are one float: their patterns agree
+pub one-float : (x y : Float) → Number x → Number y → P x + N y ≡ P y + N x → 0 < mag x → x ≡ y
+one-float x y h k e above =
+    let (s, m) = one-side x y e above in
+    sym (ofBits-toBits binary32 x (h .fits32)) ∙ ap (ofBits binary32) (pattern x h ∙ rw (s, m) (sym (pattern y k))) ∙ ofBits-toBits binary32 y (k .fits32)

@@ -34,3 +34,13 @@ sign-plus x e h = go (negative x) (mag x) e h
     go : (s : Bool) (m : ℕ) → cond s m 0 ≡ 0 → 0 < m → s ≡ false
     go true m e h = absurd (let k : 0 < 0 = subst (λ (n : ℕ). 0 < n) e h in omega arith)
     go false m e h = refl
+
+-- two floats that are one number, and not zero, have one sign and one size
+pub one-side : (x y : Float) → P x + N y ≡ P y + N x → 0 < mag x → (negative x ≡ negative y) × (mag x ≡ mag y)
+one-side x y e h = go (negative x) (negative y) (mag x) (mag y) e h
+  where
+    go : (s t : Bool) (m n : ℕ) → cond s 0 m + cond t n 0 ≡ cond t 0 n + cond s m 0 → 0 < m → (s ≡ t) × (m ≡ n)
+    go false false m n e h = (refl, omega arith)
+    go true true m n e h = (refl, omega arith)
+    go false true m n e h = absurd (omega arith)
+    go true false m n e h = absurd (omega arith)
