@@ -16,7 +16,7 @@ use Rattle.units.proofs.Patterns.{pattern-back}
 use Rattle.exact.specs.Power.{AtMost, AtLeast}
 use Rattle.exact.proofs.Power.{most-of-less, least-of-more, most-shift, least-shift}
 use Rattle.powers.specs.Exp2.{Accepts, NearPower, exp2ErrorNum, exp2ErrorDen, Exp2}
-use Rattle.powers.specs.Value.{cutOf, powerDigits, exp2Bits, exp2Of}
+use Rattle.powers.specs.Value.{cutOf, powerDigits, roundedPower, exp2Of}
 use Rattle.powers.proofs.Method.{D}
 use Rattle.powers.proofs.Rounding.{digits-zero, digits-most, digits-least}
 use Rattle.powers.proofs.Reduction.{most-uncut, least-uncut, cut-whole, cut-top, cut-mono}
@@ -37,7 +37,7 @@ module _ (x : Float) (a : Accepts x) where
 
   -- the value function's float has S 2 ^ g units
   pub exp2-is : Is (exp2Of x) false (S * 2 ^ g)
-  unfolding exp2Of exp2Bits
+  unfolding exp2Of roundedPower
   exp2-is = pattern-is X (cut-top x a)
 
   exp2-units : P (exp2Of x) ≡ S * 2 ^ g
@@ -149,8 +149,8 @@ refused x n = record {
 -- ---- how the call ends
 
 -- the pattern that is written is the value's
-pub success : (x : Float) {before after : ℕ} → Accepts x → after ≡ exp2Bits x → Ends floatBits (Exp2 x) 0 before after
-unfolding exp2Of exp2Bits
+pub success : (x : Float) {before after : ℕ} → Accepts x → after ≡ roundedPower (cutOf x) → Ends floatBits (Exp2 x) 0 before after
+unfolding exp2Of roundedPower
 success x a e = written (exp2Of x) (promised x a) (e ∙ sym (pattern-back _ (omega (arith, in-pattern)) (no-nan-positive _ in-pattern)))
   where
     in-pattern : exponentOf (cutOf x) * 8388608 + fractionDigits (cutOf x) < 255 * 8388608

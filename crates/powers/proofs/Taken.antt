@@ -4,7 +4,7 @@ use mathlib.Core.Path.{_≡_, refl, sym, ap, ap₂, _∙_}
 use mathlib.Core.Logic.{inl, inr}
 use mathlib.Core.Bool.{Bool, true, false, cond}
 use Prim.Native.Nat.{ℕ, _+_, _-_, _*_, _/_, _%_, _^_, _≤_, _<_}
-use native.Mathlib.Nat.{le-trans, le-of-eq, lt-of-le-of-lt, lt-of-lt-of-le, mul-assoc, mul-le-mul-right, mul-lt-mul-of-pos-right, div-eq-of-lt, mul-div-mul-right}
+use native.Mathlib.Nat.{le-trans, le-of-eq, lt-of-le-of-lt, lt-of-lt-of-le, mul-assoc, mul-le-mul-right, mul-lt-mul-of-pos-right, div-eq-of-lt, mul-div-mul-right, mul-div-cancel}
 use native.Mathlib.Omega.{arith}
 use lib.Dec.{lit<}
 use lib.Pow.{pow-add, pow-pos, pow-mono}
@@ -30,6 +30,26 @@ steps-low b h = rw (lt-ltb b (94 * 8388608) h)
 pub steps-high : (b : ℕ) → 94 * 8388608 ≤ b → stepsOf b ≡ (b % 8388608 + 8388608) * 2 ^ (b / 8388608 - 94) / 16777216
 unfolding stepsOf
 steps-high b h = rw (le-ltb b (94 * 8388608) h)
+
+-- from 2 ^ -9 on nothing is cut off
+pub steps-whole : (b : ℕ) → 118 ≤ b / 8388608 → stepsOf b ≡ (b % 8388608 + 8388608) * 2 ^ (b / 8388608 - 118)
+steps-whole b h = steps-high b (omega arith) ∙ ap (λ (n : ℕ). (b % 8388608 + 8388608) * n / 2 ^ 24) (ap (λ (n : ℕ). 2 ^ n) split ∙ pow-add 2 (b / 8388608 - 118) 24) ∙ through (b % 8388608 + 8388608) (2 ^ (b / 8388608 - 118))
+  where
+    split : b / 8388608 - 94 ≡ b / 8388608 - 118 + 24
+    split = omega arith
+
+    through : (m u : ℕ) → m * (u * 2 ^ 24) / 2 ^ 24 ≡ m * u
+    through m u = ap (λ (n : ℕ). n / 2 ^ 24) (sym (mul-assoc m u (2 ^ 24))) ∙ mul-div-cancel (m * u) (pow-pos 24)
+
+-- below it the digits are shifted back
+pub steps-cut : (b : ℕ) → 94 ≤ b / 8388608 → b / 8388608 < 118 → stepsOf b ≡ (b % 8388608 + 8388608) / 2 ^ (118 - b / 8388608)
+steps-cut b h l = steps-high b (omega arith) ∙ ap (λ (n : ℕ). (b % 8388608 + 8388608) * 2 ^ (b / 8388608 - 94) / n) whole ∙ mul-div-mul-right (b % 8388608 + 8388608) (2 ^ (118 - b / 8388608)) (pow-pos (b / 8388608 - 94))
+  where
+    places : 24 ≡ 118 - b / 8388608 + (b / 8388608 - 94)
+    places = omega arith
+
+    whole : 2 ^ 24 ≡ 2 ^ (118 - b / 8388608) * 2 ^ (b / 8388608 - 94)
+    whole = ap (λ (n : ℕ). 2 ^ n) places ∙ pow-add 2 (118 - b / 8388608) (b / 8388608 - 94)
 
 -- m * 2 ^ k units, in steps
 shifted : (m k : ℕ) → 93 ≤ k → m * 2 ^ (k - 93) / 2 ^ 24 ≡ m * 2 ^ k / K

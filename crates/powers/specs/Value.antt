@@ -1,9 +1,10 @@
 -- What the program computes for 2 ^ x. A reader of the promise need not read this: Exp2 names `exp2Of` and says all that is promised of it. Definitions only.
-use Prim.Native.Nat.{ℕ, _+_, _-_, _*_, _/_, _%_, _^_}
+use mathlib.Core.Path.{_≡_}
+use Prim.Native.Nat.{ℕ, _+_, _-_, _*_, _/_, _%_, _^_, _≤_, _<_}
 use mathlib.Core.Bool.{cond}
 use lib.Dec.{ltb}
 use lib.Ieee.{Float, binary32, ofBits}
-use Rattle.units.specs.Units.{P, N}
+use Rattle.units.specs.Units.{P, N, Between}
 use Rattle.powers.specs.Raised.{raised}
 
 -- the pattern b of a size below 2 ^ 7 as a whole number of 2 ^ -32, the rest cut off
@@ -19,9 +20,14 @@ unfoldable pub powerDigits : ℕ → ℕ
 powerDigits f = (raised f + 256) / 512
 
 -- the digits of the fraction, put together with the whole part: a bit pattern
-unfoldable pub exp2Bits : Float → ℕ
-exp2Bits x = cutOf x / 2 ^ 32 * 8388608 + powerDigits (cutOf x % 2 ^ 32)
+unfoldable pub roundedPower : ℕ → ℕ
+roundedPower c = c / 2 ^ 32 * 8388608 + powerDigits (c % 2 ^ 32)
 
 -- and its float
 unfoldable pub exp2Of : Float → Float
-exp2Of x = ofBits binary32 (exp2Bits x)
+exp2Of x = ofBits binary32 (roundedPower (cutOf x))
+
+-- an accepted x is taken for what it is cut off to, any other for 2 ^ 48
+pub record Argument (x : Float) (c : ℕ) : Type 0 where
+  pub accepted : c < 2 ^ 48 → Between (126 * 2 ^ 149) (127 * 2 ^ 149) x × (c ≡ cutOf x)
+  pub refused : 2 ^ 48 ≤ c → ¬ Between (126 * 2 ^ 149) (127 * 2 ^ 149) x

@@ -6,7 +6,7 @@ ghost use Rattle.powers.specs.Raised.{raised};
 ghost use Rattle.units.specs.Answers.{Ends, floatBits};
 ghost use Rattle.units.specs.Tests.{Tells};
 ghost use Rattle.powers.specs.Exp2.{Accepts, Exp2};
-ghost use Rattle.powers.specs.Value.{stepsOf, cutOf, exp2Bits};
+ghost use Rattle.powers.specs.Value.{Argument, stepsOf, cutOf, roundedPower};
 ghost use Rattle.powers.specs.Fixed.{FixedExp2};
 
 // One step of Horner's rule, the product of two 32-bit numbers cut off to its upper half.
@@ -17,9 +17,9 @@ fn step(c: u32, p: u32, f: u32) -> u32
     c + ((p as u64) * (f as u64) / 4294967296) as u32
 }
 
-// 2 to the power f / 2^32 in units of 2^-32, seven steps: 1 and the upper half of the last product.
-fn raise(f: u32) -> u64
-    ensures { λ r. ⌜ r ≡ raised f ⌝ }
+// 2 to the power f / 2^32 in units of 2^-32, seven steps, without the 1 before the point: the upper half of the last product.
+fn raise(f: u32) -> u32
+    ensures { λ r. ⌜ r + 2 ^ 32 ≡ raised f ⌝ }
 {
     let p6 = step(0x0009_6c36, 0x0001_6783, f);
     let p5 = step(0x0057_f139, p6, f);
@@ -27,20 +27,25 @@ fn raise(f: u32) -> u64
     let p3 = step(0x0e35_93ba, p4, f);
     let p2 = step(0x3d7f_7a4b, p3, f);
     let p1 = step(0xb172_1808, p2, f);
-    0x1_0000_0000 + (p1 as u64) * (f as u64) / 4294967296
+    ((p1 as u64) * (f as u64) / 4294967296) as u32
 }
 
-// The size below 2^7 with the pattern b as a whole number of 2^-32, cut off: its digits shifted to their place.
-// Below 2^-33 nothing is left of them, nor of a subnormal.
-fn steps(b: u32) -> u64
-    requires { ⌜ b < 134 * 8388608 ⌝ }
-    ensures { λ r. ⌜ (r ≡ stepsOf b) × (r ≤ 2 ^ 39) ⌝ }
+// The size with the pattern a as a whole number of 2^-32. From 2^-9 on that is exact, and one product of 32-bit words, where a chip of 32 bits has
+// no shift of 64; below it the digits are shifted to their place and cut off. Below 2^-33 nothing is left of them, nor of a subnormal.
+fn steps(a: u32) -> u64
+    requires { ⌜ a < 134 * 8388608 ⌝ }
+    ensures { λ r. ⌜ (r ≡ stepsOf a) × (r ≤ 2 ^ 39) ⌝ }
 {
-    if b < 94 * 8388608 {
-        0
-    } else {
-        (((b % 8388608 + 8388608) as u64) << (b / 8388608 - 94)) / 16777216
+    let m = a % 8388608 + 8388608;
+    let e = a / 8388608;
+    if 118 <= e {
+        let unit: u32 = 1 << (e - 118);
+        return (m as u64) * (unit as u64);
     }
+    if 94 <= e {
+        return (m >> (118 - e)) as u64;
+    }
+    0
 }
 
 // x + 126 as a whole number of 2^-32: of either sign the size is cut off, so that whole numbers stay exact and no order is lost.
@@ -70,18 +75,9 @@ pub fn fixed_exp2(x: f32) -> Digits
 {
     let c = cut_off(x);
     Digits {
-        r: raise((c % 4294967296) as u32),
+        r: 0x1_0000_0000 + raise((c % 4294967296) as u32) as u64,
         e: (c / 4294967296) as u32,
     }
-}
-
-// 2 to the power x as a bit pattern: the digits rounded, and a carry of them into the exponent is the addition.
-fn power_bits(x: f32) -> u32
-    requires { ⌜ Accepts x ⌝ }
-    ensures { λ r. ⌜ r ≡ exp2Bits x ⌝ }
-{
-    let t = fixed_exp2(x);
-    t.e * 8388608 + ((t.r + 256) / 512) as u32
 }
 
 // From -126 to 127: of patterns up to 127's, and from -0's to that of -126.
@@ -95,12 +91,39 @@ fn in_range(x: f32) -> bool
     b <= 0xc2fc_0000
 }
 
+// What no accepted x is cut off to.
+const REFUSED: u64 = 0x1_0000_0000_0000;
+
+// What x is cut off to, or REFUSED. From 2^-9 to 124 in size, where nearly all arguments are, one test of the pattern says that x is accepted.
+fn argument(x: f32) -> u64
+    ensures { λ c. ⌜ Argument x c ⌝ }
+{
+    let a = fixed::bits_of(x) % 2147483648;
+    if std::num::wrapping_sub_u32(a, 0x3b00_0000) <= 0x07f8_0000 {
+        return cut_off(x);
+    }
+    if in_range(x) {
+        return cut_off(x);
+    }
+    REFUSED
+}
+
+// The digits of a power rounded, and put together with the whole part: a carry of them into the exponent is the addition.
+fn rounded(c: u64) -> u32
+    requires { ⌜ c ≤ 253 * 2 ^ 32 ⌝ }
+    ensures { λ r. ⌜ r ≡ roundedPower c ⌝ }
+{
+    let q = raise((c % 4294967296) as u32);
+    ((c / 4294967296) as u32 + 1) * 8388608 + (q / 256 + 1) / 2
+}
+
 // 2 to the power x; code 1 and nothing written where x is a NaN, below -126 or above 127.
 pub fn exp2(x: f32, out: &mut u32) -> u32
     ensures { λ code. ⌜ Ends floatBits (Exp2 x) code (now (out .entry)) (now (out .exit)) ⌝ }
 {
-    if in_range(x) {
-        *out = power_bits(x);
+    let c = argument(x);
+    if c < REFUSED {
+        *out = rounded(c);
         return 0;
     }
     1

@@ -1,19 +1,26 @@
--- `powers::exp2` meets its promise: the test tells whether x is accepted. Assumes nothing.
+-- `powers::exp2` meets its promise: the argument is taken, or refused. Assumes nothing.
+use borrow.Author.Needs.{needs}
+use mathlib.Core.Path.{ap, _∙_}
+use native.Mathlib.Nat.{le-trans, le-of-eq}
+use Rattle.powers.specs.Value.{roundedPower}
+use Rattle.powers.proofs.Reduction.{cut-top}
 use Rattle.powers.proofs.Promise.{success, refusal}
 use Rattle.powers.proofs.exp2.Statement.{statement}
 use Rattle.powers.proofs.exp2.Tie as tie
 
-in-range-requires : tie.Need-in-range-requires
-in-range-requires c κs = tt
+argument-requires : tie.Need-argument-requires
+argument-requires c κs = search needs
 
-power-bits-requires : tie.Need-power-bits-requires
-power-bits-requires c κs = c .before .in-range .ensures .if-true (c .if1 .taken)
+rounded-requires : tie.Need-rounded-requires
+rounded-requires c κs = let (a, e) = c .before .argument .ensures .accepted (c .if1 .taken) in le-trans (le-of-eq e) (cut-top (c .before .before .args .x) a)
 
 returns : tie.Need-returns
-returns c = success (c .before .before .before .args .x) (power-bits-requires (c .before) _) (c .power-bits .ensures)
+returns c =
+    let (a, e) = c .before .before .argument .ensures .accepted (c .before .if1 .taken) in
+    success (c .before .before .before .args .x) a (c .rounded .ensures ∙ ap roundedPower e)
 
 returns-2 : tie.Need-returns-2
-returns-2 c = refusal (c .before .before .args .x) (c .before .in-range .ensures .if-false (c .if1 .left))
+returns-2 c = refusal (c .before .before .args .x) (c .before .argument .ensures .refused (c .if1 .left))
 
 pub exp2-spec : {M : Type 1} → statement M
-exp2-spec = tie.close (tie.spec in-range-requires power-bits-requires returns returns-2)
+exp2-spec = tie.close (tie.spec argument-requires rounded-requires returns returns-2)

@@ -1,8 +1,8 @@
 -- `powers::raise` meets its contract: its seven steps are those of Horner's rule. Assumes nothing.
 use borrow.Author.Needs.{needs}
-use mathlib.Core.Path.{refl, sym}
-use Prim.Native.Nat.{_*_, _≤_}
-use native.Mathlib.Nat.{mul-le-mul-left}
+use mathlib.Core.Path.{refl, sym, _∙_}
+use Prim.Native.Nat.{_*_, _/_, _≤_}
+use native.Mathlib.Nat.{add-comm, mul-le-mul-left}
 use native.Mathlib.Omega.{arith}
 use Rattle.fixed.proofs.Horner.{horner-one, horner-step}
 use Rattle.powers.specs.Raised.{coefficients, raised}
@@ -37,8 +37,8 @@ product c = mul-le-mul-left (c .step6 .result) (omega arith)
 mul-result : tie.Need-mul-result
 mul-result c = omega (arith, product c)
 
-add-result : tie.Need-add-result
-add-result c = omega (arith, product c)
+cast-result-2 : tie.Need-cast-result-2
+cast-result-2 c = omega (arith, product c)
 
 returns : tie.Need-returns
 unfolding raised coefficients
@@ -49,7 +49,8 @@ returns c =
     let s5 = s4 .before in
     let s6 = s5 .before in
     let f = s6 .before .args .f in
-    horner-step D f _ _
+    add-comm (c .step6 .result * f / D) D
+    ∙ horner-step D f _ _
     (horner-step D f _ _
     (horner-step D f _ _
     (horner-step D f _ _
@@ -61,4 +62,4 @@ returns c =
 
 pub raise-spec : {M : Type 1} → statement M
 raise-spec =
-    tie.close (tie.spec step-requires step-requires-2 step-requires-3 step-requires-4 step-requires-5 step-requires-6 cast-result mul-result add-result returns)
+    tie.close (tie.spec step-requires step-requires-2 step-requires-3 step-requires-4 step-requires-5 step-requires-6 cast-result mul-result cast-result-2 returns)

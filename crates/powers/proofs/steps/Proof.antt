@@ -1,46 +1,64 @@
--- `powers::steps` meets its contract: the two cases of the shift, which leaves the 63 digits whole. Assumes nothing.
+-- `powers::steps` meets its contract: a product that is exact, a shift that cuts off, or nothing. Assumes nothing.
 use borrow.Author.Needs.{needs}
-use mathlib.Core.Path.{sym, ap, _∙_}
+use mathlib.Core.Path.{_≡_, sym, ap, _∙_}
 use Prim.Native.Nat.{ℕ, _+_, _-_, _*_, _/_, _%_, _^_, _≤_, _<_}
-use native.Mathlib.Nat.{lt-of-lt-of-le, mod-eq-of-lt, mul-le-mul-left, mul-lt-mul-of-pos-right}
+use native.Mathlib.Nat.{le-trans, mod-eq-of-lt, lt-of-le-of-lt, mul-le-mul, one-mul, div-le-self}
 use native.Mathlib.Omega.{arith}
-use lib.Pow.{pow-pos, pow-mono}
-use Rattle.powers.proofs.Taken.{steps-low, steps-high}
+use lib.Pow.{pow-mono}
+use Rattle.powers.proofs.Taken.{steps-low, steps-whole, steps-cut}
 use Rattle.powers.proofs.steps.Statement.{statement}
 use Rattle.powers.proofs.steps.Tie as tie
 
-mul-if1 : tie.Need-mul-if1
-mul-if1 c = search needs
+add-m : tie.Need-add-m
+add-m c = search needs
 
-add-result : tie.Need-add-result
-add-result c = search needs
+shl-unit : tie.Need-shl-unit
+shl-unit c = search needs
 
 cast-result : tie.Need-cast-result
 cast-result c = search needs
 
-sub-result : tie.Need-sub-result
-sub-result c = search needs
-
 cast-result-2 : tie.Need-cast-result-2
 cast-result-2 c = search needs
 
-shl-result : tie.Need-shl-result
-shl-result c = search needs
+-- the power of two fits a word of 32 bits, and the product is below 2 ^ 39
+unit : (s : ℕ) → s ≤ 15 → (1 * 2 ^ s % 4294967296 ≡ 2 ^ s) × (2 ^ s ≤ 32768)
+unit s h =
+    let small : 2 ^ s ≤ 32768 = pow-mono {i = s} {j = 15} h in
+    (ap (λ (n : ℕ). n % 4294967296) (one-mul (2 ^ s)) ∙ mod-eq-of-lt (lt-of-le-of-lt small (omega arith)), small)
+
+product : (a : ℕ) → a < 134 * 8388608 → 118 ≤ a / 8388608 → (a % 8388608 + 8388608) * (1 * 2 ^ (a / 8388608 - 118) % 4294967296) ≤ 2 ^ 39
+product a top h =
+    let (e, small) = unit (a / 8388608 - 118) (omega arith) in
+    let digits : a % 8388608 + 8388608 ≤ 16777216 = omega arith in
+    rw e (mul-le-mul digits small)
+
+mul-result : tie.Need-mul-result
+mul-result c = omega (arith, product (c .before .args .a) (c .before .pre) (c .if1 .taken))
 
 returns : tie.Need-returns
-returns c = (sym (steps-low (c .before .args .b) (c .if1 .taken)), omega arith)
+returns c =
+    let a = c .before .args .a in
+    (ap (λ (n : ℕ). (a % 8388608 + 8388608) * n) (unit (a / 8388608 - 118) (omega arith) .0) ∙ sym (steps-whole a (c .if1 .taken)), product a (c .before .pre) (c .if1 .taken))
 
--- 24 digits shifted by at most 39 places
-shifted-small : (m s : ℕ) → m < 2 ^ 24 → s ≤ 39 → m * 2 ^ s < 2 ^ 63
-shifted-small m s h l = lt-of-lt-of-le (mul-lt-mul-of-pos-right h (pow-pos s)) (mul-le-mul-left (2 ^ 24) (pow-mono {i = s} {j = 39} l))
+sub-result : tie.Need-sub-result
+sub-result c = search needs
+
+shr-result : tie.Need-shr-result
+shr-result c = search needs
+
+-- a quotient of 24 digits is small
+small : (m d : ℕ) → m ≤ 16777216 → m / d ≤ 2 ^ 39
+small m d h = le-trans (div-le-self m d) (omega arith)
+
+cast-result-3 : tie.Need-cast-result-3
+cast-result-3 c = omega (arith, small (c .before .before .args .a % 8388608 + 8388608) (2 ^ (118 - c .before .before .args .a / 8388608)) (omega arith))
 
 returns-2 : tie.Need-returns-2
-returns-2 c =
-    let b = c .before .args .b in
-    let m = b % 8388608 + 8388608 in
-    let small : m * 2 ^ (b / 8388608 - 94) < 2 ^ 63 = shifted-small m (b / 8388608 - 94) (omega arith) (omega arith) in
-    let whole = mod-eq-of-lt (lt-of-lt-of-le small (pow-mono {i = 63} {j = 64} (omega arith))) in
-    (ap (λ (n : ℕ). n / 16777216) whole ∙ sym (steps-high b (c .if1 .left)), rw whole (omega arith))
+returns-2 c = let a = c .before .before .args .a in (sym (steps-cut a (c .if2 .taken) (c .before .if1 .left)), small (a % 8388608 + 8388608) (2 ^ (118 - a / 8388608)) (omega arith))
+
+returns-3 : tie.Need-returns-3
+returns-3 c = (sym (steps-low (c .before .before .args .a) (omega arith)), omega arith)
 
 pub steps-spec : {M : Type 1} → statement M
-steps-spec = tie.close (tie.spec mul-if1 add-result cast-result sub-result cast-result-2 shl-result returns returns-2)
+steps-spec = tie.close (tie.spec add-m shl-unit cast-result cast-result-2 mul-result returns sub-result shr-result cast-result-3 returns-2 returns-3)
