@@ -2,19 +2,18 @@
 use mathlib.Core.Path.{_≡_, refl}
 use mathlib.Core.Logic.{inl, inr}
 use Prim.Native.Nat.{ℕ, _+_, _-_, _*_, _^_, _≤_, _<_}
-use native.Mathlib.Nat.{le-trans, lt-of-lt-of-le, mul-le-mul, mul-le-mul-right}
+use native.Mathlib.Nat.{lt-of-lt-of-le, mul-le-mul-right}
 use native.Mathlib.Omega.{arith}
-use lib.Pow.{pow-pos, pow-mono}
+use lib.Pow.{pow-pos}
 use lib.Ieee.{Float}
 use Rattle.units.specs.Units.{P}
 use Rattle.units.specs.Answers.{Ends, itself}
 use Rattle.units.proofs.Answers.{written, untouched}
 use Rattle.units.proofs.Naturals.{le-or-lt}
-use Rattle.loudness.specs.Map.{Channel, Envelope, NearMap, mapErrorNum, mapErrorDen, Loudness}
-use Rattle.loudness.specs.Value.{riseOf, placesOf, stepOf}
+use Rattle.loudness.specs.Map.{Channel, Envelope, mapErrorNum, mapErrorDen, Loudness}
+use Rattle.loudness.specs.Value.{riseOf, stepOf}
 use Rattle.loudness.specs.Fitted.{Segment}
 use Rattle.loudness.proofs.Steps.{Allows}
-use Rattle.loudness.proofs.Slopes.{places}
 use Rattle.loudness.proofs.Known.{parts, width}
 use Rattle.loudness.proofs.Growth.{step-quiet, step-loud, span-octave, inside, never-falls, within}
 
@@ -22,25 +21,20 @@ use Rattle.loudness.proofs.Growth.{step-quiet, step-loud, span-octave, 
 pub segment : {b m : Float} {t c : ℕ} → Channel b m t c → Segment b m t c
 segment ch = let s = ch .steps in record { levels = ch .levels; order = ch .order; few = omega arith }
 
-module _ (b m : Float) (t c : ℕ) (ch : Channel b m t c) where
-  -- the constant allows the errors of the logarithm and of the slope over 255 steps and an octave
-  allowed : Allows mapErrorNum mapErrorDen width (c - t) (riseOf b m) (2 ^ placesOf (c - t))
-  allowed =
-      let s = ch .steps in
-      let k : c - t ≤ 255 = omega arith in
-      let (y, y′, digits) = places (c - t) 8 (omega arith) (omega arith) in
-      through (c - t) (riseOf b m) (2 ^ placesOf (c - t)) k (span-octave b m t c (segment ch)) (pow-mono {i = 23} {j = placesOf (c - t)} (omega arith))
-    where
-      through : (k d Y : ℕ) → k ≤ 255 → parts ≤ d + width → 8388608 ≤ Y → Allows mapErrorNum mapErrorDen width k d Y
-      through k d Y few long many =
-          let a : 8000000 * d ≤ Y * d = mul-le-mul-right d (omega arith) in
-          joined k d Y a (mul-le-mul-right Y (errors k d few long))
-        where
-          errors : (k d : ℕ) → k ≤ 255 → parts ≤ d + width → 2 * (width * (4000000 * k + 1000002)) ≤ 3 * d
-          errors k d few long = omega arith
+-- e millionths of a step beside the half allow the errors of the words and of the logarithms over k steps, each with its share
+allows : (k e d : ℕ) → 4000000 * k ≤ e * 1073741824 → 4 * (width * (4000000 * k + 1000000 + 2 * e)) ≤ 7 * e * d → Allows (500000 + e) mapErrorDen width k d 1073741824
+allows k e d words logs = joined (mul-le-mul-right d words)
+  where
+    joined : 4000000 * k * d ≤ e * 1073741824 * d → Allows (500000 + e) mapErrorDen width k d 1073741824
+    joined a = omega arith
 
-          joined : (k d Y : ℕ) → 8000000 * d ≤ Y * d → 2 * (width * (4000000 * k + 1000002)) * Y ≤ 3 * d * Y → Allows mapErrorNum mapErrorDen width k d Y
-          joined k d Y a b = omega arith
+module _ (b m : Float) (t c : ℕ) (ch : Channel b m t c) where
+  -- so the constant allows them over 255 steps and an octave
+  allowed : Allows mapErrorNum mapErrorDen width (c - t) (riseOf b m) 1073741824
+  allowed = let s = ch .steps in errors (c - t) (riseOf b m) (omega arith) (span-octave b m t c (segment ch))
+    where
+      errors : (k d : ℕ) → k ≤ 255 → parts ≤ d + width → Allows mapErrorNum mapErrorDen width k d 1073741824
+      errors k d few long = allows k 1 d (omega arith) (omega arith)
 
   -- m is above b
   below-both : (a : Float) → P m ≤ P a → P a ≤ P b → ⊥
