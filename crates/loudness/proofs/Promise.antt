@@ -5,17 +5,16 @@ use Prim.Native.Nat.{ℕ, _+_, _-_, _*_, _^_, _≤_, _<_}
 use native.Mathlib.Nat.{lt-of-lt-of-le, mul-le-mul-right}
 use native.Mathlib.Omega.{arith}
 use borrow.Author.Tests.{le-leb, lt-leb}
-use lib.Pow.{pow-pos, pow-mono}
+use lib.Pow.{pow-pos}
 use lib.Ieee.{Float}
 use Rattle.units.specs.Units.{P}
 use Rattle.units.specs.Answers.{Ends, itself}
 use Rattle.units.proofs.Answers.{written, untouched}
 use Rattle.units.proofs.Naturals.{le-or-lt}
 use Rattle.loudness.specs.Map.{Channel, Envelope, mapErrorNum, mapErrorDen, Loudness}
-use Rattle.loudness.specs.Value.{riseOf, placesOf, stepOf}
+use Rattle.loudness.specs.Value.{riseOf, stepOf}
 use Rattle.loudness.specs.Fitted.{Segment}
 use Rattle.loudness.proofs.Steps.{Allows}
-use Rattle.loudness.proofs.Slopes.{places}
 use Rattle.loudness.proofs.Known.{parts, width}
 use Rattle.loudness.proofs.Growth.{step-quiet, step-loud, span-octave, inside, never-falls, within}
 
@@ -23,48 +22,29 @@ use Rattle.loudness.proofs.Growth.{step-quiet, step-loud, span-octave, 
 pub segment : {top : ℕ} {b m : Float} {t c : ℕ} → Channel top b m t c → Segment b m t c
 segment ch = let s = ch .steps in let h = ch .highest in record { levels = ch .levels; order = ch .order; few = omega arith }
 
--- e millionths of a step beside the half allow the errors of the slope, in parts of Y, and of the logarithms over k steps, each with its share
-allows : (k e d Y : ℕ) → 8000000 ≤ e * Y → 2 * (width * (4000000 * k + 1000000 + 2 * e)) ≤ 3 * e * d → Allows (500000 + e) mapErrorDen width k d Y
-allows k e d Y slope logs = joined (mul-le-mul-right d slope) (mul-le-mul-right Y logs)
+-- e millionths of a step beside the half allow the errors of the words and of the logarithms over k steps, each with its share
+allows : (k e d : ℕ) → 4000000 * k ≤ e * 1073741824 → 4 * (width * (4000000 * k + 1000000 + 2 * e)) ≤ 7 * e * d → Allows (500000 + e) mapErrorDen width k d 1073741824
+allows k e d words logs = joined (mul-le-mul-right d words)
   where
-    joined : 8000000 * d ≤ e * Y * d → 2 * (width * (4000000 * k + 1000000 + 2 * e)) * Y ≤ 3 * e * d * Y → Allows (500000 + e) mapErrorDen width k d Y
-    joined a b = omega arith
+    joined : 4000000 * k * d ≤ e * 1073741824 * d → Allows (500000 + e) mapErrorDen width k d 1073741824
+    joined a = omega arith
 
 module _ (top : ℕ) (b m : Float) (t c : ℕ) (ch : Channel top b m t c) where
-  abbrev d : ℕ
-  d = riseOf b m
-
-  abbrev Y : ℕ
-  Y = 2 ^ placesOf (c - t)
-
-  -- the constant allows the errors of the logarithm and of the slope over all steps and an octave
-  allowed : Allows (mapErrorNum top) mapErrorDen width (c - t) d Y
-  allowed = elim (le-or-lt top 255) [
-    | inl h ↦
-        let s = ch .steps in
-        let (y, y′, digits) = places (c - t) 8 (omega arith) (omega arith) in
-        rw (le-leb top 255 h) (allows (c - t) 1 d Y (many (pow-mono {i = 23} {j = placesOf (c - t)} (omega arith))) (errors (c - t) d (omega arith) long))
-    | inr h ↦
-        let s = ch .steps in
-        let l = ch .highest in
-        let (y, y′, digits) = places (c - t) 10 (omega arith) (omega arith) in
-        rw (lt-leb top 255 h) (allows (c - t) 4 d Y (many′ (pow-mono {i = 21} {j = placesOf (c - t)} (omega arith))) (errors′ (c - t) d (omega arith) long))
-  ]
+  -- so the constant allows them over all steps and an octave
+  allowed : Allows (mapErrorNum top) mapErrorDen width (c - t) (riseOf b m) 1073741824
+  allowed =
+      let s = ch .steps in
+      let o = span-octave b m t c (segment ch) in
+      elim (le-or-lt top 255) [
+        | inl h ↦ rw (le-leb top 255 h) (short (c - t) (riseOf b m) (omega arith) o)
+        | inr h ↦ let l = ch .highest in rw (lt-leb top 255 h) (longer (c - t) (riseOf b m) (omega arith) o)
+      ]
     where
-      long : parts ≤ d + width
-      long = span-octave b m t c (segment ch)
+      short : (k d : ℕ) → k ≤ 255 → parts ≤ d + width → Allows 500001 mapErrorDen width k d 1073741824
+      short k d few long = allows k 1 d (omega arith) (omega arith)
 
-      many : {Y : ℕ} → 8388608 ≤ Y → 8000000 ≤ 1 * Y
-      many h = omega arith
-
-      many′ : {Y : ℕ} → 2097152 ≤ Y → 8000000 ≤ 4 * Y
-      many′ h = omega arith
-
-      errors : (k d : ℕ) → k ≤ 255 → parts ≤ d + width → 2 * (width * (4000000 * k + 1000000 + 2 * 1)) ≤ 3 * 1 * d
-      errors k d few long = omega arith
-
-      errors′ : (k d : ℕ) → k ≤ 1023 → parts ≤ d + width → 2 * (width * (4000000 * k + 1000000 + 2 * 4)) ≤ 3 * 4 * d
-      errors′ k d few long = omega arith
+      longer : (k d : ℕ) → k ≤ 1023 → parts ≤ d + width → Allows 500004 mapErrorDen width k d 1073741824
+      longer k d few long = allows k 4 d (omega arith) (omega arith)
 
   -- m is above b
   below-both : (a : Float) → P m ≤ P a → P a ≤ P b → ⊥
