@@ -38,13 +38,16 @@ fn in_order(b: f32, m: f32) -> bool
     0x0080_0000 <= h - l
 }
 
-// Whether b, m, t and c make a channel.
-pub fn is_channel(b: f32, m: f32, t: u32, c: u32) -> bool
-    ensures { λ r. ⌜ Tells (Channel b m t c) r ⌝ }
+// Whether b, m, t and c make a channel of a stimulator with the steps 0 to top.
+pub fn is_channel(top: u32, b: f32, m: f32, t: u32, c: u32) -> bool
+    ensures { λ r. ⌜ Tells (Channel top b m t c) r ⌝ }
 {
     if in_order(b, m) {
         if t <= c {
-            return c <= 255;
+            if c <= top {
+                return top <= 1023;
+            }
+            return false;
         }
         return false;
     }
@@ -134,11 +137,12 @@ pub fn step(f: Fitted, a: f32) -> u32
     t + nearest_step(c - t, word(logs::fixed_log2(a) - low, places), span)
 }
 
-// The step of an envelope value in the channel b, m, t, c; code 4 where they make no channel, code 1 where a is no envelope value.
-pub fn loudness(b: f32, m: f32, t: u32, c: u32, a: f32, out: &mut u32) -> u32
-    ensures { λ code. ⌜ Ends itself (Loudness b m t c a) code (now (out .entry)) (now (out .exit)) ⌝ }
+// The step of an envelope value in the channel b, m, t, c of a stimulator with the steps 0 to top; code 4 where they make no channel, code 1
+// where a is no envelope value.
+pub fn loudness_top(top: u32, b: f32, m: f32, t: u32, c: u32, a: f32, out: &mut u32) -> u32
+    ensures { λ code. ⌜ Ends itself (Loudness top b m t c a) code (now (out .entry)) (now (out .exit)) ⌝ }
 {
-    let channel = is_channel(b, m, t, c);
+    let channel = is_channel(top, b, m, t, c);
     let envelope = is_envelope(a);
     if channel {
         if envelope {
@@ -148,4 +152,11 @@ pub fn loudness(b: f32, m: f32, t: u32, c: u32, a: f32, out: &mut u32) -> u32
         return 1;
     }
     4
+}
+
+// The same of a stimulator with 256 steps.
+pub fn loudness(b: f32, m: f32, t: u32, c: u32, a: f32, out: &mut u32) -> u32
+    ensures { λ code. ⌜ Ends itself (Loudness 255 b m t c a) code (now (out .entry)) (now (out .exit)) ⌝ }
+{
+    loudness_top(255, b, m, t, c, a, out)
 }
