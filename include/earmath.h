@@ -192,6 +192,18 @@ uint32_t ear_softmax2_in_place(float *p, uint64_t n);
  */
 uint32_t ear_loudness(float b, float m, uint32_t t, uint32_t c, float a, uint32_t *out);
 
+/*
+ * The loudness map of a stimulator with the steps 0 to top.
+ *
+ * Accepts: what ear_loudness accepts, with t <= c <= top <= 1023 in place of
+ *          t <= c <= 255. ear_loudness is the case top = 255.
+ * Result:  as of ear_loudness; at most 0.500004 away from exact(a), and 0.500001
+ *          where top is at most 255.
+ * Order:   never falls as a grows.
+ * Refuses: as ear_loudness; top > 1023 and c > top with EAR_BAD_CHANNEL.
+ */
+uint32_t ear_loudness_top(uint32_t top, float b, float m, uint32_t t, uint32_t c, float a, uint32_t *out);
+
 #ifdef __cplusplus
 }
 #endif
