@@ -53,7 +53,7 @@ module _ (top : ℕ) (b m : Float) (t c : ℕ) (ch : Channel top b m t c) where
       let q : 0 < P b = lt-of-lt-of-le (pow-pos 125) (ch .levels .quietest) in
       omega arith
 
-  promised : (a : Float) → Envelope a → Loudness top b m t c a 0 (stepOf b m t c a)
+  pub promised : (a : Float) → Envelope a → Loudness top b m t c a 0 (stepOf b m t c a)
   promised a e =
       let sg = segment ch in
       let n = e .number in

@@ -30,3 +30,7 @@ stepsOf k n d = nearestStep k (wordOf (placesOf d) n) (wordOf (placesOf d) d)
 -- the step: threshold up to b, comfort from m on, and between them in proportion to the rise
 unfoldable pub stepOf : (b m : Float) (t c : ℕ) → Float → ℕ
 stepOf b m t c a = cond (leb (P a) (P b)) t (cond (leb (P m) (P a)) c (t + stepsOf (c - t) (riseOf b a) (riseOf b m)))
+
+-- with a knee: one segment up to k, and another of the same kind from there on
+unfoldable pub kneeOf : (b k m : Float) (t s c : ℕ) → Float → ℕ
+kneeOf b k m t s c a = cond (leb (P a) (P k)) (stepOf b k t s a) (stepOf k m s c a)

@@ -1,11 +1,7 @@
 -- `loudness::loudness_top` meets its promise. Assumes nothing.
-use mathlib.Core.Path.{_≡_, _∙_}
-use Prim.Native.Nat.{ℕ}
-use lib.Ieee.{Float}
+use mathlib.Core.Path.{_∙_}
 use Rattle.loudness.specs.Map.{Channel, Envelope}
-use Rattle.loudness.specs.Value.{stepOf}
-use Rattle.loudness.specs.Fitted.{Fits}
-use Rattle.loudness.specs.declared.Fitted.{Fitted}
+use Rattle.loudness.proofs.Growth.{same-step}
 use Rattle.loudness.proofs.Promise.{segment, success, refusal, no-channel}
 use Rattle.loudness.proofs.loudness_top.Statement.{statement}
 use Rattle.loudness.proofs.loudness_top.Tie as tie
@@ -27,10 +23,6 @@ fit-requires c κs = segment (channel (c .before))
 
 step-requires : tie.Need-step-requires
 step-requires c κs = (c .fit .ensures .holds, envelope (c .before))
-
--- the fitted channel's step is the channel's
-same-step : {b m : Float} {t c : ℕ} (f : Fitted) (a : Float) → Fits b m t c f → stepOf (f .b) (f .m) (f .t) (f .c) a ≡ stepOf b m t c a
-same-step f a h = rw (h .same-b, h .same-m, h .same-t, h .same-c)
 
 returns : tie.Need-returns
 returns c =
