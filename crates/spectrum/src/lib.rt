@@ -1,0 +1,4 @@
+// The transform of 128 floats.
+
+mod turns;
+mod words;
