@@ -8,7 +8,7 @@ use native.Mathlib.Nat.{one-mul, mul-le-mul-left}
 use lib.Dec.{T, lit<, lit≤}
 use lib.ListN.{length}
 use Rattle.exact.specs.Polynomial.{value}
-use Rattle.exact.specs.Series.{partial, over, fourth, LimitNear}
+use Rattle.exact.specs.Series.{partial, denominator, fourth, LimitNear}
 use Rattle.exact.proofs.Polynomial.{odd, spread}
 use Rattle.exact.proofs.Forms.{add, value-add, length-add}
 use Rattle.exact.proofs.Pieces.{each, below, below-sound, knots, end}
@@ -72,20 +72,20 @@ mirrored-length false = lit≤ tt
 
 module _ (x d : ℕ) (pos : 0 < d) (small : x ≤ d) where
   near : (f g : ℕ → ℕ) → ((i : ℕ) → f i ≤ 1) → ((i : ℕ) → g i ≤ 1) → (cs bs : List ℕ) → length cs ≤ 12 → length bs ≤ 12 → Test f g cs bs → Test g f bs cs →
-      LimitNear (partial f (quarter * x) (quarterUnit * d)) (partial g (quarter * x) (quarterUnit * d)) (over (quarterUnit * d)) (value 11 cs x d) (value 11 bs x d) (D * d ^ 11) 1 (4 * D)
+      LimitNear (partial f (quarter * x) (quarterUnit * d)) (partial g (quarter * x) (quarterUnit * d)) (denominator (quarterUnit * d)) (value 11 cs x d) (value 11 bs x d) (D * d ^ 11) 1 (4 * D)
   unfolding quarter quarterUnit knots end
   near f g f-small g-small cs bs fits fits′ low high =
       near-polynomial 9 11 quarter quarterUnit D 1 (4 * D) 16 (knots 1 16 0) (lit< tt) refl (lit< tt) (lit≤ tt) f g f-small g-small cs bs fits fits′ low high x d pos small
 
   -- the sine of x / d quarter turns
   pub sine-near :
-      LimitNear (partial (fourth 1) (quarter * x) (quarterUnit * d)) (partial (fourth 3) (quarter * x) (quarterUnit * d)) (over (quarterUnit * d)) (value 11 (part true) x d) (value 11 (part false) x d)
+      LimitNear (partial (fourth 1) (quarter * x) (quarterUnit * d)) (partial (fourth 3) (quarter * x) (quarterUnit * d)) (denominator (quarterUnit * d)) (value 11 (part true) x d) (value 11 (part false) x d)
       (D * d ^ 11) 1 (4 * D)
   sine-near = near (fourth 1) (fourth 3) (fourth-most 1) (fourth-most 3) (part true) (part false) (part-length true) (part-length false) sine-least sine-most
 
   -- the cosine, as read from the other end
   pub cosine-near :
-      LimitNear (partial (fourth 0) (quarter * x) (quarterUnit * d)) (partial (fourth 2) (quarter * x) (quarterUnit * d)) (over (quarterUnit * d)) (value 11 (mirrored true) x d)
+      LimitNear (partial (fourth 0) (quarter * x) (quarterUnit * d)) (partial (fourth 2) (quarter * x) (quarterUnit * d)) (denominator (quarterUnit * d)) (value 11 (mirrored true) x d)
       (value 11 (mirrored false) x d) (D * d ^ 11) 1 (4 * D)
   cosine-near = near (fourth 0) (fourth 2) (fourth-most 0) (fourth-most 2) (mirrored true) (mirrored false) (mirrored-length true) (mirrored-length false) cosine-least cosine-most
 

@@ -1,5 +1,7 @@
 // The C interface: one thin function for each, with the whole promise as its contract. include/earmath.h says the same in words.
 
+ghost use lib.ListN.{length};
+ghost use Rattle.units.specs.Answers.{Ends, floatBits, listBits, itself};
 ghost use Rattle.roots.specs.Sqrt.{Sqrt};
 ghost use Rattle.roots.specs.Rsqrt.{Rsqrt};
 ghost use Rattle.loudness.specs.Map.{Loudness};
@@ -11,80 +13,80 @@ ghost use Rattle.weights.specs.Softmax.{Softmax2};
 
 // The square root of every bit pattern: the nearest float, or code 1 and nothing written.
 #[no_mangle]
-pub extern "C" fn ear_sqrt(x: f32, out: &mut f32) -> u32
-    ensures { λ code. ⌜ Sqrt x code (now (out .entry)) (now (out .exit)) ⌝ }
+pub extern "C" fn ear_sqrt(x: f32, out: &mut u32) -> u32
+    ensures { λ code. ⌜ Ends floatBits (Sqrt x) code (now (out .entry)) (now (out .exit)) ⌝ }
 {
     roots::sqrt(x, out)
 }
 
 // 1 over the square root of every bit pattern: the nearest float, or code 1 and nothing written.
 #[no_mangle]
-pub extern "C" fn ear_rsqrt(x: f32, out: &mut f32) -> u32
-    ensures { λ code. ⌜ Rsqrt x code (now (out .entry)) (now (out .exit)) ⌝ }
+pub extern "C" fn ear_rsqrt(x: f32, out: &mut u32) -> u32
+    ensures { λ code. ⌜ Ends floatBits (Rsqrt x) code (now (out .entry)) (now (out .exit)) ⌝ }
 {
     roots::rsqrt(x, out)
 }
 
 // 2 to the power of every bit pattern: within 515 / 2^33 of it, or code 1 and nothing written.
 #[no_mangle]
-pub extern "C" fn ear_exp2(x: f32, out: &mut f32) -> u32
-    ensures { λ code. ⌜ Exp2 x code (now (out .entry)) (now (out .exit)) ⌝ }
+pub extern "C" fn ear_exp2(x: f32, out: &mut u32) -> u32
+    ensures { λ code. ⌜ Ends floatBits (Exp2 x) code (now (out .entry)) (now (out .exit)) ⌝ }
 {
     powers::exp2(x, out)
 }
 
 // The logarithm to base two of every bit pattern: within 2 ^ -21 * max(1, |log2 x|), or code 1 and nothing written.
 #[no_mangle]
-pub extern "C" fn ear_log2(x: f32, out: &mut f32) -> u32
-    ensures { λ code. ⌜ Log2 x code (now (out .entry)) (now (out .exit)) ⌝ }
+pub extern "C" fn ear_log2(x: f32, out: &mut u32) -> u32
+    ensures { λ code. ⌜ Ends floatBits (Log2 x) code (now (out .entry)) (now (out .exit)) ⌝ }
 {
     logs::log2(x, out)
 }
 
 // sin(pi x) of every finite bit pattern: within 17 / 2^29 of it, or code 1 and nothing written.
 #[no_mangle]
-pub extern "C" fn ear_sinpi(x: f32, out: &mut f32) -> u32
-    ensures { λ code. ⌜ SinPi x code (now (out .entry)) (now (out .exit)) ⌝ }
+pub extern "C" fn ear_sinpi(x: f32, out: &mut u32) -> u32
+    ensures { λ code. ⌜ Ends floatBits (SinPi x) code (now (out .entry)) (now (out .exit)) ⌝ }
 {
     circle::sinpi(x, out)
 }
 
 // cos(pi x), likewise.
 #[no_mangle]
-pub extern "C" fn ear_cospi(x: f32, out: &mut f32) -> u32
-    ensures { λ code. ⌜ CosPi x code (now (out .entry)) (now (out .exit)) ⌝ }
+pub extern "C" fn ear_cospi(x: f32, out: &mut u32) -> u32
+    ensures { λ code. ⌜ Ends floatBits (CosPi x) code (now (out .entry)) (now (out .exit)) ⌝ }
 {
     circle::cospi(x, out)
 }
 
 // sin x of every bit pattern from -8192 to 8192: within 17 / 2^29 of it, or code 1 and nothing written.
 #[no_mangle]
-pub extern "C" fn ear_sin(x: f32, out: &mut f32) -> u32
-    ensures { λ code. ⌜ Sin x code (now (out .entry)) (now (out .exit)) ⌝ }
+pub extern "C" fn ear_sin(x: f32, out: &mut u32) -> u32
+    ensures { λ code. ⌜ Ends floatBits (Sin x) code (now (out .entry)) (now (out .exit)) ⌝ }
 {
     circle::sin(x, out)
 }
 
 // cos x, likewise.
 #[no_mangle]
-pub extern "C" fn ear_cos(x: f32, out: &mut f32) -> u32
-    ensures { λ code. ⌜ Cos x code (now (out .entry)) (now (out .exit)) ⌝ }
+pub extern "C" fn ear_cos(x: f32, out: &mut u32) -> u32
+    ensures { λ code. ⌜ Ends floatBits (Cos x) code (now (out .entry)) (now (out .exit)) ⌝ }
 {
     circle::cos(x, out)
 }
 
 // The sum of the products of two lists, within G times the sum of their sizes; or code 2, 1 or 3 and nothing written.
 #[no_mangle]
-pub extern "C" fn ear_dot(a: &[f32], b: &[f32], out: &mut f32) -> u32
-    ensures { λ code. ⌜ Dot (now (a .entry)) (now (b .entry)) code (now (out .entry)) (now (out .exit)) ⌝ }
+pub extern "C" fn ear_dot(a: &[f32], b: &[f32], out: &mut u32) -> u32
+    ensures { λ code. ⌜ Ends floatBits (Dot (now (a .entry)) (now (b .entry))) code (now (out .entry)) (now (out .exit)) ⌝ }
 {
     sums::dot(a, b, out)
 }
 
 // 2 to the power of each element of a list over the sum of all these powers: within 273 / 2^32 of the quotient, or code 2 or 1 and nothing written.
 #[no_mangle]
-pub extern "C" fn ear_softmax2(x: &[f32], p: &mut [f32]) -> u32
-    ensures { λ code. ⌜ Softmax2 (now (x .entry)) code (now (p .entry)) (now (p .exit)) ⌝ }
+pub extern "C" fn ear_softmax2(x: &[f32], p: &mut [u32]) -> u32
+    ensures { λ code. ⌜ Ends listBits (Softmax2 (now (x .entry)) (length (now (p .entry)))) code (now (p .entry)) (now (p .exit)) ⌝ }
 {
     weights::softmax2(x, p)
 }
@@ -92,7 +94,7 @@ pub extern "C" fn ear_softmax2(x: &[f32], p: &mut [f32]) -> u32
 // The loudness map of an envelope value a in the channel b, m, t, c: a step within 0.500001 of the exact map, or code 4 or 1 and nothing written.
 #[no_mangle]
 pub extern "C" fn ear_loudness(b: f32, m: f32, t: u32, c: u32, a: f32, out: &mut u32) -> u32
-    ensures { λ code. ⌜ Loudness b m t c a code (now (out .entry)) (now (out .exit)) ⌝ }
+    ensures { λ code. ⌜ Ends itself (Loudness b m t c a) code (now (out .entry)) (now (out .exit)) ⌝ }
 {
     loudness::loudness(b, m, t, c, a, out)
 }

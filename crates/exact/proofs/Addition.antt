@@ -8,7 +8,7 @@ use native.Mathlib.Nat.{le-trans, mul-le-mul-left, mul-le-mul-right, le-of-mul-l
 use native.Mathlib.Omega.{arith}
 use lib.Dec.{T, eqb, eqb→eq}
 use lib.Ieee.Fits.{and-l, and-r}
-use Rattle.exact.specs.Series.{partial, over, fourth}
+use Rattle.exact.specs.Series.{partial, denominator, fourth}
 use Rattle.exact.proofs.Series.{over-pos, partial-grows, partial-tail, fourth-most, Small, small-terms}
 use Rattle.exact.proofs.Binomial.{binomial, binomial-over, binomial-next, row, row-grows, powers, row-powers}
 
@@ -21,10 +21,10 @@ unfoldable pub square : (ℕ → ℕ) → ℕ → ℕ → ℕ → ℕ → ℕ
 square f p r q n = partial (later f p q n) r q n
 
 -- a shorter partial sum is at most a longer one
-partial-least : (g : ℕ → ℕ) (p q i j : ℕ) → 0 < q → binomial i j * partial g p q i * over q j ≤ partial g p q (i + j)
+partial-least : (g : ℕ → ℕ) (p q i j : ℕ) → 0 < q → binomial i j * partial g p q i * denominator q j ≤ partial g p q (i + j)
 partial-least g p q i j pos =
     le-of-mul-le-mul-right
-    (through (binomial i j) (partial g p q i) (over q i) (over q j) (partial g p q (i + j)) (over q (i + j)) (binomial-over q i j) (partial-grows g p q i (i + j) (omega arith)))
+    (through (binomial i j) (partial g p q i) (denominator q i) (denominator q j) (partial g p q (i + j)) (denominator q (i + j)) (binomial-over q i j) (partial-grows g p q i (i + j) (omega arith)))
     (over-pos q i pos)
   where
     through : (b E D C F G : ℕ) → b * (D * C) ≡ G → E * G ≤ F * D → b * E * C * D ≤ F * D
@@ -68,39 +68,39 @@ module _ (f : ℕ → ℕ) (p r q : ℕ) where
 
   -- ---- within the square
 
-  square-holds : 0 < q → (n i j : ℕ) → i + j ≡ n → row column i j * over q j ≤ partial (later f p q n) r q j
-  unfolding row column partial over
+  square-holds : 0 < q → (n i j : ℕ) → i + j ≡ n → row column i j * denominator q j ≤ partial (later f p q n) r q j
+  unfolding row column partial denominator
   square-holds pos n i zero e = let same : i ≡ n = omega arith in rw (same, pow-zero r) (omega arith)
   square-holds pos n i (suc j) e =
-      through (row column (suc i) j) (partial (later f p q n) r q j) (over q j) (binomial i (suc j)) (r ^ suc j) (later f p q i (suc j))
+      through (row column (suc i) j) (partial (later f p q n) r q j) (denominator q j) (binomial i (suc j)) (r ^ suc j) (later f p q i (suc j))
       (later f p q n (suc j)) (suc j * q) (square-holds pos n (suc i) j (omega arith)) (rw e at (partial-least (λ k. f (k + suc j)) p q i (suc j) pos))
     where
       through : (A W D b R E G s : ℕ) → A * D ≤ W → b * E * (D * s) ≤ G → (A + b * (R * E)) * (D * s) ≤ W * s + G * R
       through A W D b R E G s h l = omega (arith, mul-le-mul-right s h, mul-le-mul-right R l)
 
   -- the partial sum at the sum is at most the product
-  pub sum-least : 0 < q → (n : ℕ) → partial f (p + r) q n * over q n ≤ square f p r q n
+  pub sum-least : 0 < q → (n : ℕ) → partial f (p + r) q n * denominator q n ≤ square f p r q n
   unfolding square
   sum-least pos n = rw (← triangle n) (square-holds pos n 0 n (zero-add n))
 
   -- ---- about the square
 
-  square-held : (n i j : ℕ) → n ≤ i → partial (later f p q n) r q j * over q (i + j) ≤ row column i j * (over q j * over q n)
-  unfolding row column partial over
+  square-held : (n i j : ℕ) → n ≤ i → partial (later f p q n) r q j * denominator q (i + j) ≤ row column i j * (denominator q j * denominator q n)
+  unfolding row column partial denominator
   square-held n i zero l = rw (add-zero i, pow-zero r) (omega (arith, partial-grows (λ k. f (k + 0)) p q n i l))
   square-held n i (suc j) l =
       let before : suc i + j ≡ i + suc j = omega arith in
-      through (row column (suc i) j) (partial (later f p q n) r q j) (over q j) (binomial i (suc j)) (r ^ suc j) (later f p q i (suc j))
-      (later f p q n (suc j)) (suc j * q) (over q i) (over q n) (over q (i + suc j))
+      through (row column (suc i) j) (partial (later f p q n) r q j) (denominator q j) (binomial i (suc j)) (r ^ suc j) (later f p q i (suc j))
+      (later f p q n (suc j)) (suc j * q) (denominator q i) (denominator q n) (denominator q (i + suc j))
       (rw before at (square-held n (suc i) j (omega arith))) (partial-grows (λ k. f (k + suc j)) p q n i l) (binomial-over q i (suc j))
     where
       through : (A W D b R E G s O N M : ℕ) → W * M ≤ A * (D * N) → G * O ≤ E * N → b * (O * (D * s)) ≡ M → (W * s + G * R) * M ≤ (A + b * (R * E)) * (D * s * N)
       through A W D b R E G s O N M h k e = omega (arith, mul-le-mul-right s h, mul-le-mul-right (b * D * s * R) k, ap (λ (x : ℕ). G * R * x) e)
 
   -- the product is at most the partial sum of twice the order at the sum
-  pub square-most : (n : ℕ) → square f p r q n * over q (n + n) ≤ partial f (p + r) q (n + n) * (over q n * over q n)
+  pub square-most : (n : ℕ) → square f p r q n * denominator q (n + n) ≤ partial f (p + r) q (n + n) * (denominator q n * denominator q n)
   unfolding square
-  square-most n = rw (← triangle (n + n)) (le-trans (square-held n n n (omega arith)) (mul-le-mul-right (over q n * over q n) (row-grows column n n)))
+  square-most n = rw (← triangle (n + n)) (le-trans (square-held n n n (omega arith)) (mul-le-mul-right (denominator q n * denominator q n) (row-grows column n n)))
 
 -- ---- the theorem for any weights
 
@@ -110,11 +110,11 @@ pub record Close (S D M b : ℕ) : Type 0 where
   pub most : b * M ≤ b * (S * D) + D * D
 
 -- the partial sum at the sum is close to the product, from where terms at the sum are small
-pub summed : (f : ℕ → ℕ) → ((k : ℕ) → f k ≤ 1) → (p r q b : ℕ) → 0 < q → (s : Small (p + r) q b) → (n : ℕ) → s .from ≤ n → Close (partial f (p + r) q n) (over q n) (square f p r q n) b
+pub summed : (f : ℕ → ℕ) → ((k : ℕ) → f k ≤ 1) → (p r q b : ℕ) → 0 < q → (s : Small (p + r) q b) → (n : ℕ) → s .from ≤ n → Close (partial f (p + r) q n) (denominator q n) (square f p r q n) b
 summed f weights p r q b pos s n h =
     record {
       least = sum-least f p r q pos n;
-      most = through (square f p r q n) (over q (n + n)) (partial f (p + r) q (n + n)) (partial f (p + r) q n) ((p + r) ^ n) (over q n)
+      most = through (square f p r q n) (denominator q (n + n)) (partial f (p + r) q (n + n)) (partial f (p + r) q n) ((p + r) ^ n) (denominator q n)
           (square-most f p r q n) (partial-tail f weights (p + r) q n (n + n) (s .halve n h) (omega arith)) (s .small n h) (over-pos q (n + n) pos);
     }
   where
@@ -194,19 +194,19 @@ module _ (t a b c d : ℕ) (test : T (splits t a b c d)) where
           (omega arith)
 
   -- the theorem for a class
-  class-summed : (p p′ q e : ℕ) → 0 < q → (s : Small (p + p′) q e) → (n : ℕ) → s .from ≤ n → Close (partial (fourth t) (p + p′) q n) (over q n) (products p p′ q n a b c d) e
+  class-summed : (p p′ q e : ℕ) → 0 < q → (s : Small (p + p′) q e) → (n : ℕ) → s .from ≤ n → Close (partial (fourth t) (p + p′) q n) (denominator q n) (products p p′ q n a b c d) e
   class-summed p p′ q e pos s n h = rw (square-splits p p′ q n) at (summed (fourth t) (fourth-most t) p p′ q e pos s n h)
 
 -- each class at the sum p + p′ is at most the products whose classes add up to it, and within 1 / b of them
 pub record Added (p p′ q b n : ℕ) : Type 0 where
-  pub least0 : partial (fourth 0) (p + p′) q n * over q n ≤ products p p′ q n 0 3 2 1
-  pub most0 : b * products p p′ q n 0 3 2 1 ≤ b * (partial (fourth 0) (p + p′) q n * over q n) + over q n * over q n
-  pub least1 : partial (fourth 1) (p + p′) q n * over q n ≤ products p p′ q n 1 0 3 2
-  pub most1 : b * products p p′ q n 1 0 3 2 ≤ b * (partial (fourth 1) (p + p′) q n * over q n) + over q n * over q n
-  pub least2 : partial (fourth 2) (p + p′) q n * over q n ≤ products p p′ q n 2 1 0 3
-  pub most2 : b * products p p′ q n 2 1 0 3 ≤ b * (partial (fourth 2) (p + p′) q n * over q n) + over q n * over q n
-  pub least3 : partial (fourth 3) (p + p′) q n * over q n ≤ products p p′ q n 3 2 1 0
-  pub most3 : b * products p p′ q n 3 2 1 0 ≤ b * (partial (fourth 3) (p + p′) q n * over q n) + over q n * over q n
+  pub least0 : partial (fourth 0) (p + p′) q n * denominator q n ≤ products p p′ q n 0 3 2 1
+  pub most0 : b * products p p′ q n 0 3 2 1 ≤ b * (partial (fourth 0) (p + p′) q n * denominator q n) + denominator q n * denominator q n
+  pub least1 : partial (fourth 1) (p + p′) q n * denominator q n ≤ products p p′ q n 1 0 3 2
+  pub most1 : b * products p p′ q n 1 0 3 2 ≤ b * (partial (fourth 1) (p + p′) q n * denominator q n) + denominator q n * denominator q n
+  pub least2 : partial (fourth 2) (p + p′) q n * denominator q n ≤ products p p′ q n 2 1 0 3
+  pub most2 : b * products p p′ q n 2 1 0 3 ≤ b * (partial (fourth 2) (p + p′) q n * denominator q n) + denominator q n * denominator q n
+  pub least3 : partial (fourth 3) (p + p′) q n * denominator q n ≤ products p p′ q n 3 2 1 0
+  pub most3 : b * products p p′ q n 3 2 1 0 ≤ b * (partial (fourth 3) (p + p′) q n * denominator q n) + denominator q n * denominator q n
 
 -- that holds from some order on
 pub record Addition (p p′ q b : ℕ) : Type 0 where

@@ -10,7 +10,7 @@ use lib.Dec.{T}
 use lib.ListN.{length}
 use lib.Pow.{pow-add}
 use Rattle.exact.specs.Polynomial.{value}
-use Rattle.exact.specs.Series.{partial, over, LimitNear}
+use Rattle.exact.specs.Series.{partial, denominator, LimitNear}
 use Rattle.exact.proofs.Power.{mul-pow}
 use Rattle.exact.proofs.Forms.{add, scale, value-add, value-scale-by, value-raise, length-add, length-scale}
 use Rattle.exact.proofs.Pieces.{each, end, below, below-sound}
@@ -28,16 +28,16 @@ later P N U a b F G F′ G′ t O o up down h =
 -- the weights are at most 1, and terms halve from the order n on
 module _ (f g : ℕ → ℕ) (f-small : (k : ℕ) → f k ≤ 1) (g-small : (k : ℕ) → g k ≤ 1) (p q n : ℕ) (pos : 0 < q) (halve : 2 * p ≤ suc n * q) (P N U a b : ℕ) where
   abbrev O : ℕ
-  O = over q n
+  O = denominator q n
 
   pub near-by-order :
       b * (P * O + U * (partial g p q n + p ^ n)) ≤ b * (N * O + U * partial f p q n) + a * (U * O) →
       b * (N * O + U * (partial f p q n + p ^ n)) ≤ b * (P * O + U * partial g p q n) + a * (U * O) →
-      LimitNear (partial f p q) (partial g p q) (over q) P N U a b
+      LimitNear (partial f p q) (partial g p q) (denominator q) P N U a b
   near-by-order low high = record {
     from = n;
-    least = λ m l. le-of-mul-le-mul-right (later P N U a b _ _ _ _ (p ^ n) O (over q m) (partial-grows f p q n m l) (partial-tail g g-small p q n m halve l) low) (over-pos q n pos);
-    most = λ m l. le-of-mul-le-mul-right (later N P U a b _ _ _ _ (p ^ n) O (over q m) (partial-grows g p q n m l) (partial-tail f f-small p q n m halve l) high) (over-pos q n pos);
+    least = λ m l. le-of-mul-le-mul-right (later P N U a b _ _ _ _ (p ^ n) O (denominator q m) (partial-grows f p q n m l) (partial-tail g g-small p q n m halve l) low) (over-pos q n pos);
+    most = λ m l. le-of-mul-le-mul-right (later N P U a b _ _ _ _ (p ^ n) O (denominator q m) (partial-grows g p q n m l) (partial-tail f f-small p q n m halve l) high) (over-pos q n pos);
   }
 
 -- ---- another fraction
@@ -79,13 +79,13 @@ near-instead {F} {G} {O} {P} {N} {U} {E} {a} {b} P′ N′ κ pos low high h = r
 module _ (j k c w K a b N : ℕ) (es : List ℕ) where
   -- cs over K, and a last term, at most the sum
   abbrev least-list : (ℕ → ℕ) → List ℕ → List ℕ
-  least-list g cs = scale b (add (scale (over w (j + k)) cs) (scale K (add (terms g c w (j + k)) ((c ^ (j + k)) ∷ []))))
+  least-list g cs = scale b (add (scale (denominator w (j + k)) cs) (scale K (add (terms g c w (j + k)) ((c ^ (j + k)) ∷ []))))
 
   abbrev most-list : (ℕ → ℕ) → List ℕ → List ℕ
-  most-list f bs = add (scale b (add (scale (over w (j + k)) bs) (scale K (terms f c w (j + k))))) ((a * (K * over w (j + k))) ∷ [])
+  most-list f bs = add (scale b (add (scale (denominator w (j + k)) bs) (scale K (terms f c w (j + k))))) ((a * (K * denominator w (j + k))) ∷ [])
 
   unfoldable pub not-above : (ℕ → ℕ) → (ℕ → ℕ) → List ℕ → List ℕ → Bool
-  unfolding scale add over terms each below
+  unfolding scale add denominator terms each below
   not-above f g cs bs = each (below N (j + k) (least-list g cs) (most-list f bs)) 0 es
 
   module _ (pos : 0 < N) (whole : end 0 es ≡ N) (f g : ℕ → ℕ) (cs bs : List ℕ) (fits : length cs ≤ suc k) (fits′ : length bs ≤ suc k) (test : T (not-above f g cs bs)) (x d : ℕ) (small : x ≤ d) where
@@ -99,43 +99,43 @@ module _ (j k c w K a b N : ℕ) (es : List ℕ) where
     least-length : length (least-list g cs) ≤ suc n
     least-length =
         rw length-scale
-        (length-add (suc n) (scale (over w n) cs) (scale K (add (terms g c w n) ((c ^ n) ∷ []))) (rw length-scale (omega arith))
+        (length-add (suc n) (scale (denominator w n) cs) (scale K (add (terms g c w n) ((c ^ n) ∷ []))) (rw length-scale (omega arith))
         (rw length-scale (length-add (suc n) (terms g c w n) ((c ^ n) ∷ []) (terms-length g c w n) (omega arith))))
 
     most-length : length (most-list f bs) ≤ suc n
     most-length =
-        length-add (suc n) (scale b (add (scale (over w n) bs) (scale K (terms f c w n)))) ((a * (K * over w n)) ∷ [])
-        (rw length-scale (length-add (suc n) (scale (over w n) bs) (scale K (terms f c w n)) (rw length-scale (omega arith)) (rw length-scale (terms-length f c w n)))) (omega arith)
+        length-add (suc n) (scale b (add (scale (denominator w n) bs) (scale K (terms f c w n)))) ((a * (K * denominator w n)) ∷ [])
+        (rw length-scale (length-add (suc n) (scale (denominator w n) bs) (scale K (terms f c w n)) (rw length-scale (omega arith)) (rw length-scale (terms-length f c w n)))) (omega arith)
 
     -- the tested inequality, at x / d
-    tested : b * (over w n * (d ^ j * value k cs x d) + K * (value n (terms g c w n) x d + c ^ n * d ^ n))
-        ≤ b * (over w n * (d ^ j * value k bs x d) + K * value n (terms f c w n) x d) + a * (K * over w n) * d ^ n
+    tested : b * (denominator w n * (d ^ j * value k cs x d) + K * (value n (terms g c w n) x d + c ^ n * d ^ n))
+        ≤ b * (denominator w n * (d ^ j * value k bs x d) + K * value n (terms f c w n) x d) + a * (K * denominator w n) * d ^ n
     unfolding not-above
     tested =
         let h : value n (least-list g cs) x d ≤ value n (most-list f bs) x d = below-sound N n (least-list g cs) (most-list f bs) pos least-length most-length 0 es test x d (omega arith) (rw whole (mul-le-mul-left N small)) in
         rw (
-          value-scale-by n b (add (scale (over w n) cs) (scale K (add (terms g c w n) ((c ^ n) ∷ [])))) x d,
-          value-add n (scale (over w n) cs) (scale K (add (terms g c w n) ((c ^ n) ∷ []))) x d,
-          value-scale-by n (over w n) cs x d,
+          value-scale-by n b (add (scale (denominator w n) cs) (scale K (add (terms g c w n) ((c ^ n) ∷ [])))) x d,
+          value-add n (scale (denominator w n) cs) (scale K (add (terms g c w n) ((c ^ n) ∷ []))) x d,
+          value-scale-by n (denominator w n) cs x d,
           value-raise j k cs x d fits,
           value-scale-by n K (add (terms g c w n) ((c ^ n) ∷ [])) x d,
           value-add n (terms g c w n) ((c ^ n) ∷ []) x d,
           constant (c ^ n),
-          value-add n (scale b (add (scale (over w n) bs) (scale K (terms f c w n)))) ((a * (K * over w n)) ∷ []) x d,
-          value-scale-by n b (add (scale (over w n) bs) (scale K (terms f c w n))) x d,
-          value-add n (scale (over w n) bs) (scale K (terms f c w n)) x d,
-          value-scale-by n (over w n) bs x d,
+          value-add n (scale b (add (scale (denominator w n) bs) (scale K (terms f c w n)))) ((a * (K * denominator w n)) ∷ []) x d,
+          value-scale-by n b (add (scale (denominator w n) bs) (scale K (terms f c w n))) x d,
+          value-add n (scale (denominator w n) bs) (scale K (terms f c w n)) x d,
+          value-scale-by n (denominator w n) bs x d,
           value-raise j k bs x d fits′,
           value-scale-by n K (terms f c w n) x d,
-          constant (a * (K * over w n)),
+          constant (a * (K * denominator w n)),
         ) at h
 
     -- as the law of one order asks for it
-    asked : b * (value k cs x d * over (w * d) n + K * d ^ k * (partial g (c * x) (w * d) n + (c * x) ^ n))
-        ≤ b * (value k bs x d * over (w * d) n + K * d ^ k * partial f (c * x) (w * d) n) + a * (K * d ^ k * over (w * d) n)
+    asked : b * (value k cs x d * denominator (w * d) n + K * d ^ k * (partial g (c * x) (w * d) n + (c * x) ^ n))
+        ≤ b * (value k bs x d * denominator (w * d) n + K * d ^ k * partial f (c * x) (w * d) n) + a * (K * d ^ k * denominator (w * d) n)
     asked =
         rw (over-scale w d n, partial-value g c w x d n, partial-value f c w x d n, mul-pow c x n, pow-add d j k)
-        (through (over w n) (d ^ j) (d ^ k) (value k cs x d) (value k bs x d) (value n (terms g c w n) x d) (value n (terms f c w n) x d) (c ^ n * x ^ n)
+        (through (denominator w n) (d ^ j) (d ^ k) (value k cs x d) (value k bs x d) (value n (terms g c w n) x d) (value n (terms f c w n) x d) (c ^ n * x ^ n)
         (mul-le-mul-left (c ^ n) (le-trans (pow-le-pow-left small n) (le-of-eq (pow-add d j k))))
         (rw (pow-add d j k) at tested))
       where
@@ -148,7 +148,7 @@ module _ (j k c w K a b N : ℕ) (es : List ℕ) where
   -- both tests, and the limit is near the polynomials' difference
   pub near-polynomial : 0 < N → end 0 es ≡ N → 0 < w → 2 * c ≤ suc (j + k) * w → (f g : ℕ → ℕ) → ((i : ℕ) → f i ≤ 1) → ((i : ℕ) → g i ≤ 1) →
       (cs bs : List ℕ) → length cs ≤ suc k → length bs ≤ suc k → T (not-above f g cs bs) → T (not-above g f bs cs) → (x d : ℕ) → 0 < d → x ≤ d →
-      LimitNear (partial f (c * x) (w * d)) (partial g (c * x) (w * d)) (over (w * d)) (value k cs x d) (value k bs x d) (K * d ^ k) a b
+      LimitNear (partial f (c * x) (w * d)) (partial g (c * x) (w * d)) (denominator (w * d)) (value k cs x d) (value k bs x d) (K * d ^ k) a b
   near-polynomial pos whole wpos halve f g f-small g-small cs bs fits fits′ low high x d dpos small =
       near-by-order f g f-small g-small (c * x) (w * d) (j + k) (one-le-mul wpos dpos) halved (value k cs x d) (value k bs x d) (K * d ^ k) a b
       (asked pos whole f g cs bs fits fits′ low x d small) (asked pos whole g f bs cs fits′ fits high x d small)

@@ -3,7 +3,7 @@ use mathlib.Core.Path.{_≡_, refl, ap}
 use Prim.Native.Nat.{ℕ, zero, suc, _+_, _*_, _^_, _≤_}
 use native.Mathlib.Nat.{le-trans, one-le-mul, mul-assoc, mul-left-comm, add-suc, suc-add, zero-add, add-zero, pow-zero, pow-suc, pow-succ', eq-of-mul-eq-mul-right}
 use native.Mathlib.Omega.{arith}
-use Rattle.exact.specs.Series.{over}
+use Rattle.exact.specs.Series.{denominator}
 use Rattle.exact.proofs.Series.{over-pos}
 
 -- (i + j)! / (i! j!)
@@ -13,14 +13,14 @@ binomial (suc i) zero = 1
 binomial (suc i) (suc j) = binomial i (suc j) + binomial (suc i) j
 
 -- it is the ratio of the denominators
-pub binomial-over : (q i j : ℕ) → binomial i j * (over q i * over q j) ≡ over q (i + j)
-unfolding binomial over
+pub binomial-over : (q i j : ℕ) → binomial i j * (denominator q i * denominator q j) ≡ denominator q (i + j)
+unfolding binomial denominator
 binomial-over q zero j = rw zero-add (omega arith)
 binomial-over q (suc i) zero = rw (add-zero (suc i)) (omega arith)
 binomial-over q (suc i) (suc j) =
     let e : suc i + suc j ≡ suc (suc (i + j)) = omega arith in
     rw e
-    (through (binomial i (suc j)) (binomial (suc i) j) (over q i) (over q j) (over q (suc (i + j)))
+    (through (binomial i (suc j)) (binomial (suc i) j) (denominator q i) (denominator q j) (denominator q (suc (i + j)))
     (rw add-suc at (binomial-over q i (suc j))) (rw suc-add at (binomial-over q (suc i) j)))
   where
     through : (B C D E F : ℕ) → B * (D * (E * (suc j * q))) ≡ F → C * (D * (suc i * q) * E) ≡ F →
@@ -29,11 +29,11 @@ binomial-over q (suc i) (suc j) =
 
 -- the next of a row by the last
 pub binomial-next : (i j : ℕ) → binomial (suc i) j * suc i ≡ binomial i j * suc (i + j)
-unfolding over
+unfolding denominator
 binomial-next i j =
-    eq-of-mul-eq-mul-right (over 1 i * over 1 j) (one-le-mul (over-pos 1 i (omega arith)) (over-pos 1 j (omega arith)))
+    eq-of-mul-eq-mul-right (denominator 1 i * denominator 1 j) (one-le-mul (over-pos 1 i (omega arith)) (over-pos 1 j (omega arith)))
     (binomial (suc i) j * suc i) (binomial i j * suc (i + j))
-    (through (binomial (suc i) j) (binomial i j) (over 1 i) (over 1 j) (over 1 (i + j)) (binomial-over 1 i j) (rw suc-add at (binomial-over 1 (suc i) j)))
+    (through (binomial (suc i) j) (binomial i j) (denominator 1 i) (denominator 1 j) (denominator 1 (i + j)) (binomial-over 1 i j) (rw suc-add at (binomial-over 1 (suc i) j)))
   where
     through : (B C D E F : ℕ) → C * (D * E) ≡ F → B * (D * (suc i * 1) * E) ≡ F * (suc (i + j) * 1) → B * suc i * (D * E) ≡ C * suc (i + j) * (D * E)
     through B C D E F h l = omega (arith, ap (λ (x : ℕ). x * suc (i + j)) h)

@@ -28,20 +28,20 @@ pub record Below (m : ℕ) (us : List ℕ) (K : ℕ) : Type 0 where
 module _ (b c r m K : ℕ) (us : List ℕ) (unit : 0 < K) (cpos : 0 < c) (fits : length us ≤ m) where
   -- a list that outgrows 2 ^ t
   pub is-above : T (fast b c r K us) → Above m (K ∷ us) K
-  is-above t = record { unit = unit; fits = suc-le-suc fits; bound = λ p q qpos small. above b c r K us m fits p q cpos qpos small t }
+  is-above t = record { unit = unit; fits = suc-le-suc fits; bound = λ p q qpos small. above b c r K us m fits p q cpos qpos unit small t }
 
   -- a list that lags behind 2 ^ t
   pub is-below : b < c → T (slow b c r K us) → Below m (K ∷ us) K
-  is-below less t = record { unit = unit; fits = suc-le-suc fits; bound = λ p q qpos. beneath b c r K us m fits p q cpos qpos less t }
+  is-below less t = record { unit = unit; fits = suc-le-suc fits; bound = λ p q qpos. beneath b c r K us m fits p q cpos qpos unit less t }
 
 -- what bounds from above is above zero
 pub above-pos : {m : ℕ} {us : List ℕ} {K : ℕ} → Above m us K → (p q : ℕ) → 0 < q → p ≤ q → 0 < value m us p q
-above-pos {m} e p q pos small = least-pos (one-le-mul (e .unit) (one-le-pow m q pos)) pos (e .bound p q pos small)
+above-pos e p q pos small = least-pos (e .bound p q pos small)
 
 -- ---- a composite with a bound of 2 ^ t, where t = z / w and E = cs(x) - ds(x)
 
-denominator : (B d j m : ℕ) → (B * d ^ j) ^ m ≡ B ^ m * d ^ (m * j)
-denominator B d j m = rw (mul-pow B (d ^ j) m, mul-comm m j, pow-mul d j m) refl
+powers : (B d j m : ℕ) → (B * d ^ j) ^ m ≡ B ^ m * d ^ (m * j)
+powers B d j m = rw (mul-pow B (d ^ j) m, mul-comm m j, pow-mul d j m) refl
 
 -- E us(t) against bs(x), over the common denominators
 crossed : (K E : ℕ) (up : Bool) (C D U P Q R : ℕ) → E + D ≡ C → Ordered up (C * U) (D * U + P * Q) → Ordered up (U * (K * R * E)) (Q * (K * (P * R)))
@@ -52,17 +52,17 @@ crossed K E false C D U P Q R s h =
     let h' : P * Q ≤ E * U = omega (arith, ap (λ (y : ℕ). y * U) s) in
     omega (arith, mul-le-mul-right (K * R) h')
 
-module _ {m : ℕ} {us : List ℕ} {K n : ℕ} {cs ds : List ℕ} {j : ℕ} {plus minus : List ℕ} {B : ℕ} {bs : List ℕ} {x d : ℕ} (pos : 0 < B * d ^ j) (E : ℕ) (rest : E + value n ds x d ≡ value n cs x d) where
+module _ {m : ℕ} {us : List ℕ} {K n : ℕ} {cs ds : List ℕ} {j : ℕ} {plus minus : List ℕ} {B : ℕ} {bs : List ℕ} {x d : ℕ} (pos : 0 < B * d ^ j) (E : ℕ) (rest : E + value n ds x d ≡ value n cs x d) (wide : 0 < K * d ^ (m * j) * E) where
   -- 2 ^ t ≤ bs(x) / (K E)
   pub above-composite : Above m us K → (c : Composite true n cs ds j plus minus B m us bs x d) → c .z ≤ B * d ^ j → AtLeast (value (n + m * j) bs x d) (K * d ^ (m * j) * E) (c .z) 0 (B * d ^ j)
   above-composite e c small =
-      least-of-more (above-pos e (c .z) (B * d ^ j) pos small)
+      least-of-more wide
       (crossed K E true (value n cs x d) (value n ds x d) (value m us (c .z) (B * d ^ j)) (B ^ m) (value (n + m * j) bs x d) (d ^ (m * j)) rest (c .sides))
-      (rw (denominator B d j m) at (e .bound (c .z) (B * d ^ j) pos small))
+      (rw (powers B d j m) at (e .bound (c .z) (B * d ^ j) pos small))
 
   -- bs(x) / (K E) ≤ 2 ^ t
   pub below-composite : Below m us K → (c : Composite false n cs ds j plus minus B m us bs x d) → AtMost (value (n + m * j) bs x d) (K * d ^ (m * j) * E) (c .z) 0 (B * d ^ j)
   below-composite e c =
-      most-of-less (rw (denominator B d j m) at (one-le-mul (e .unit) (one-le-pow m (B * d ^ j) pos)))
+      most-of-less wide
       (crossed K E false (value n cs x d) (value n ds x d) (value m us (c .z) (B * d ^ j)) (B ^ m) (value (n + m * j) bs x d) (d ^ (m * j)) rest (c .sides))
-      (rw (denominator B d j m) at (e .bound (c .z) (B * d ^ j) pos))
+      (rw (powers B d j m) at (e .bound (c .z) (B * d ^ j) pos))

@@ -198,7 +198,7 @@ unfoldable pub slow : ℕ → ℕ → ℕ → ℕ → List ℕ → Bool
 unfolding lags squared
 slow b c r a cs = let w = c * 2 ^ r in lags b c 1 a cs && leb w (2 * squared r (w - b) w)
 
-module _ (b c r a : ℕ) (cs : List ℕ) (n : ℕ) (fits : length cs ≤ n) (p q : ℕ) (cpos : 0 < c) (qpos : 0 < q) where
+module _ (b c r a : ℕ) (cs : List ℕ) (n : ℕ) (fits : length cs ≤ n) (p q : ℕ) (cpos : 0 < c) (qpos : 0 < q) (apos : 0 < a) where
   order : c * (q * 2 ^ r) ≡ c * 2 ^ r * q
   order = omega arith
 
@@ -210,6 +210,8 @@ module _ (b c r a : ℕ) (cs : List ℕ) (n : ℕ) (fits : length cs ≤ n) (p q
   unfolding fast
   above small t =
       record {
+        per = one-le-mul apos (one-le-pow n q qpos);
+        root = qpos;
         holds = rw (one-pow p, one-mul, ← mul-one (value n (a ∷ cs) p q ^ q))
             at (by-root 2 1 (c * 2 ^ r) (c * 2 ^ r + b) b 0 (2 ^ r) p q (omega arith) (c * 2 ^ r * q + b) (omega arith) (a * q ^ n) (value n (a ∷ cs) p q)
             width (omega (arith, width)) qpos (by-squares 2 1 r (c * 2 ^ r + b) (c * 2 ^ r) twice) compounded);
@@ -235,6 +237,8 @@ module _ (b c r a : ℕ) (cs : List ℕ) (n : ℕ) (fits : length cs ≤ n) (p q
   unfolding slow
   beneath less t =
       record {
+        per = one-le-mul apos (one-le-pow n q qpos);
+        root = qpos;
         holds = rw (one-pow p, one-mul, ← mul-one (value n (a ∷ cs) p q ^ q))
             at (by-root 1 2 (c * 2 ^ r) (c * 2 ^ r - b) 0 b (2 ^ r) p q (omega (arith, room)) (c * 2 ^ r * q - b) (omega (arith, wide)) (value n (a ∷ cs) p q) (a * q ^ n)
             width (omega (arith, room)) qpos (by-squares 1 2 r (c * 2 ^ r - b) (c * 2 ^ r) halves) compounded);

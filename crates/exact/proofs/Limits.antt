@@ -3,8 +3,8 @@ use mathlib.Core.Path.{_≡_}
 use Prim.Native.Nat.{ℕ, _+_, _*_, _^_, _≤_, _<_}
 use native.Mathlib.Nat.{add-zero, zero-add, mul-comm, mul-le-mul-left, mul-le-mul-right, le-of-mul-le-mul-right, one-le-pow}
 use native.Mathlib.Omega.{arith}
-use Rattle.exact.specs.Series.{partial, over, fourth, LimitNear}
-use Rattle.exact.specs.Circle.{Cosine, Sine}
+use Rattle.exact.specs.Series.{partial, denominator, fourth, LimitNear}
+use Rattle.exact.specs.Circle.{Cosine, Sine, signed, bound}
 use Rattle.exact.proofs.Series.{over-scale, partial-scale, partial-zero}
 use Rattle.exact.proofs.Within.{Within}
 
@@ -65,8 +65,8 @@ near-part {P} {N} {U} {a} {b} K pos f g d h = record {
 
 -- cos (p / q) is within a / b of (C - C') / U, and sin (p / q) of (S - S') / U
 pub record Both (p q C C′ S S′ U a b : ℕ) : Type 0 where
-  pub cosine : LimitNear (partial (fourth 0) p q) (partial (fourth 2) p q) (over q) C C′ U a b
-  pub sine : LimitNear (partial (fourth 1) p q) (partial (fourth 3) p q) (over q) S S′ U a b
+  pub cosine : LimitNear (partial (fourth 0) p q) (partial (fourth 2) p q) (denominator q) C C′ U a b
+  pub sine : LimitNear (partial (fourth 1) p q) (partial (fourth 3) p q) (denominator q) S S′ U a b
 
 -- within a / b, so within what is more
 pub both-wider : {p q C C′ S S′ U a b a′ b′ : ℕ} → 0 < b → a * b′ ≤ a′ * b → Both p q C C′ S S′ U a b → Both p q C C′ S S′ U a′ b′
@@ -93,7 +93,7 @@ both-same {p} {q} {p′} {q′} pos same h = both-cancel q pos (rw (same, mul-co
 -- ---- as a promise says it: at p / q or at - m / q
 
 -- cosine of either sign
-pub cosine-of : {p m q C C′ S S′ U a b : ℕ} → Both (p + m) q C C′ S S′ U a b → Cosine p m q C C′ U a b
+pub cosine-of : {p m q C C′ S S′ U a b : ℕ} → Both (p + m) q C C′ S S′ U a b → Cosine (signed p m q) (signed C C′ U) (bound a b)
 cosine-of h = record { near = h .cosine }
 
 -- the sums of sine at zero
@@ -106,7 +106,7 @@ unfolding fourth
 third-zero q n = rw partial-zero (omega arith)
 
 -- sine of p / q
-pub sine-plus : {p q C C′ S S′ U a b : ℕ} → Both p q C C′ S S′ U a b → Sine p 0 q S S′ U a b
+pub sine-plus : {p q C C′ S S′ U a b : ℕ} → Both p q C C′ S S′ U a b → Sine (signed p 0 q) (signed S S′ U) (bound a b)
 sine-plus {p} {q} h = record {
   near = record {
     from = h .sine .from;
@@ -116,7 +116,7 @@ sine-plus {p} {q} h = record {
 }
 
 -- sine of - m / q
-pub sine-minus : {m q C C′ S S′ U a b : ℕ} → Both m q C C′ S S′ U a b → Sine 0 m q S′ S U a b
+pub sine-minus : {m q C C′ S S′ U a b : ℕ} → Both m q C C′ S S′ U a b → Sine (signed 0 m q) (signed S′ S U) (bound a b)
 sine-minus {m} {q} h = record {
   near = record {
     from = h .sine .from;

@@ -10,7 +10,7 @@ use lib.Dec.{T}
 use lib.ListN.{length}
 use Rattle.exact.specs.Power.{AtMost, AtLeast}
 use Rattle.exact.specs.Polynomial.{value}
-use Rattle.exact.proofs.Power.{most-of-less, least-of-more, least-pos}
+use Rattle.exact.proofs.Power.{most-of-less, least-of-more}
 use Rattle.exact.proofs.Forms.{scale, value-scale-by, value-raise, length-scale}
 use Rattle.exact.proofs.Pieces.{each, end}
 use Rattle.exact.proofs.Composite.{Composite, composite, composite-sound}
@@ -55,15 +55,15 @@ module _ (n : ℕ) (cs ds bs : List ℕ) (j : ℕ) (plus minus : List ℕ) (unit
 
       -- 2 ^ (t f / g) ≤ bs(x) / (cs - ds)(x)
       pub exponent-least : Above m us K → T (exponent true) → f * z ≤ unit * g * d ^ j → AtLeast (value n bs x d) E (f * z) 0 (unit * g * d ^ j)
-      exponent-least e t small = least-of-more (least-pos (below-one (e .unit)) wide found) (le-of-eq (same (d ^ (m * j)) (value n bs x d))) found
+      exponent-least e t small = least-of-more Epos (le-of-eq (same (d ^ (m * j)) (value n bs x d))) found
         where
           found : AtLeast (K * (d ^ (m * j) * value n bs x d)) (K * d ^ (m * j) * E) (f * z) 0 (unit * g * d ^ j)
           found =
               let c = tested (e .fits) true t x d low high in
-              rw (numbers, numerator true c) at (above-composite wide E rest e c (rw (numerator true c) small))
+              rw (numbers, numerator true c) at (above-composite wide E rest (below-one (e .unit)) e c (rw (numerator true c) small))
 
       -- bs(x) / (cs - ds)(x) ≤ 2 ^ (t f / g)
       pub exponent-most : Below m us K → T (exponent false) → AtMost (value n bs x d) E (f * z) 0 (unit * g * d ^ j)
       exponent-most e t =
           let c = tested (e .fits) false t x d low high in
-          most-of-less (below-one (e .unit)) (le-of-eq (sym (same (d ^ (m * j)) (value n bs x d)))) (rw (numbers, numerator false c) at (below-composite wide E rest e c))
+          most-of-less Epos (le-of-eq (sym (same (d ^ (m * j)) (value n bs x d)))) (rw (numbers, numerator false c) at (below-composite wide E rest (below-one (e .unit)) e c))

@@ -13,7 +13,7 @@ use Rattle.exact.specs.Polynomial.{value}
 use Rattle.exact.proofs.Power.{most-of-less, least-of-more}
 use Rattle.exact.proofs.Forms.{scale, value-scale-by, value-raise, length-scale}
 use Rattle.exact.proofs.Pieces.{each, end, below, below-sound}
-use Rattle.exact.proofs.Enclosure.{Above, Below, above-pos}
+use Rattle.exact.proofs.Enclosure.{Above, Below}
 
 -- cs has degree n at most, the bound us of 2 ^ t degree k + n, in units of 1 / K; N knots es cut the interval from 0 to 1
 module _ (n k : ℕ) (cs : List ℕ) (unit hi lo : ℕ) (us : List ℕ) (K N : ℕ) (es : List ℕ) where
@@ -27,15 +27,15 @@ module _ (n k : ℕ) (cs : List ℕ) (unit hi lo : ℕ) (us : List ℕ) (K N : �
   unfolding each below scale
   low-enough = each (below N (k + n) (scale (K * lo) cs) (scale (unit * hi) us)) 0 es
 
-  module _ (pos : 0 < N) (whole : end 0 es ≡ N) (fits : length cs ≤ suc n) (p q : ℕ) (qpos : 0 < q) (small : p ≤ q) where
+  module _ (pos : 0 < N) (whole : end 0 es ≡ N) (fits : length cs ≤ suc n) (p q : ℕ) (qpos : 0 < q) (small : p ≤ q) (upos : 0 < unit) where
     within : N * p ≤ end 0 es * q
     within = rw whole (mul-le-mul-left N small)
 
     -- 2 ^ t ≤ (hi / lo) cs(t) / unit
-    pub near-least : Above (k + n) us K → T high-enough → AtLeast (hi * value n cs p q) (lo * (unit * q ^ n)) p 0 q
+    pub near-least : 0 < lo → Above (k + n) us K → T high-enough → AtLeast (hi * value n cs p q) (lo * (unit * q ^ n)) p 0 q
     unfolding high-enough
-    near-least e t =
-        least-of-more (above-pos e p q qpos small)
+    near-least lpos e t =
+        least-of-more (one-le-mul lpos (one-le-mul upos (one-le-pow n q qpos)))
         (through (value (k + n) us p q) (value n cs p q) (q ^ k) (q ^ n) under) (rw pow-add at (e .bound p q qpos small))
       where
         under : unit * lo * value (k + n) us p q ≤ K * hi * (q ^ k * value n cs p q)
@@ -47,10 +47,10 @@ module _ (n k : ℕ) (cs : List ℕ) (unit hi lo : ℕ) (us : List ℕ) (K N : �
         through U C Q R h = omega (arith, mul-le-mul-right R h)
 
     -- cs(t) / unit ≤ (hi / lo) 2 ^ t
-    pub near-most : Below (k + n) us K → T low-enough → AtMost (lo * value n cs p q) (hi * (unit * q ^ n)) p 0 q
+    pub near-most : 0 < hi → Below (k + n) us K → T low-enough → AtMost (lo * value n cs p q) (hi * (unit * q ^ n)) p 0 q
     unfolding low-enough
-    near-most e t =
-        most-of-less (one-le-mul (e .unit) (one-le-mul (one-le-pow k q qpos) (one-le-pow n q qpos)))
+    near-most hpos e t =
+        most-of-less (one-le-mul hpos (one-le-mul upos (one-le-pow n q qpos)))
         (through (value (k + n) us p q) (value n cs p q) (q ^ k) (q ^ n) under) (rw pow-add at (e .bound p q qpos))
       where
         under : K * lo * (q ^ k * value n cs p q) ≤ unit * hi * value (k + n) us p q

@@ -5,7 +5,7 @@ use native.Mathlib.Nat.{mul-le-mul-left, mul-le-mul-right, le-of-mul-le-mul-righ
 use native.Mathlib.Omega.{arith}
 use lib.Dec.{T, leb, leb→le}
 use lib.Pow.{pow-pos}
-use Rattle.exact.specs.Series.{partial, over, fourth}
+use Rattle.exact.specs.Series.{partial, denominator, fourth}
 use Rattle.exact.proofs.Series.{over-pos, partial-grows, partial-tail, fourth-most}
 use Rattle.exact.proofs.Rotation.{Known}
 
@@ -37,10 +37,10 @@ fine-pos = pow-pos 240
 
 -- the r-th of the four sums, up to the term n and with its tail, is at most the s-th plus (d - a) / e
 unfoldable settled : ℕ → ℕ → ℕ → ℕ → ℕ → ℕ → ℕ → ℕ → Bool
-settled r s e a d p q n = leb (e * (partial (fourth r) p q n + p ^ n) + a * over q n) (e * partial (fourth s) p q n + d * over q n)
+settled r s e a d p q n = leb (e * (partial (fourth r) p q n + p ^ n) + a * denominator q n) (e * partial (fourth s) p q n + d * denominator q n)
 
 later : (r s e a d p q n : ℕ) → 0 < q → 2 * p ≤ suc n * q → T (settled r s e a d p q n) → (m : ℕ) → n ≤ m →
-    e * partial (fourth r) p q m + a * over q m ≤ e * partial (fourth s) p q m + d * over q m
+    e * partial (fourth r) p q m + a * denominator q m ≤ e * partial (fourth s) p q m + d * denominator q m
 unfolding settled
 later r s e a d p q n pos halve t m l =
     le-of-mul-le-mul-right
@@ -62,7 +62,7 @@ next-halves = leb→le (2 * suc quarter) (71 * quarterUnit) tt
 -- cosine is within 1 / (5 fine) of 0, and sine of 1
 tests : T (settled 0 2 (5 * fine) 0 1 quarter quarterUnit 70) × T (settled 2 0 (5 * fine) 0 1 quarter quarterUnit 70)
     × T (settled 1 3 (5 * fine) 0 (5 * fine + 1) quarter quarterUnit 70) × T (settled 3 1 (5 * fine) (5 * fine) 1 quarter quarterUnit 70)
-unfolding settled partial over fourth quarter quarterUnit fine
+unfolding settled partial denominator fourth quarter quarterUnit fine
 tests = (tt, tt, tt, tt)
 
 -- so is every later partial sum
@@ -73,7 +73,7 @@ quarter-near n l = record {
 }
   where
     at : (r s a d : ℕ) → T (settled r s (5 * fine) a d quarter quarterUnit 70) →
-        5 * fine * partial (fourth r) quarter quarterUnit n + a * over quarterUnit n ≤ 5 * fine * partial (fourth s) quarter quarterUnit n + d * over quarterUnit n
+        5 * fine * partial (fourth r) quarter quarterUnit n + a * denominator quarterUnit n ≤ 5 * fine * partial (fourth s) quarter quarterUnit n + d * denominator quarterUnit n
     at r s a d t = later r s (5 * fine) a d quarter quarterUnit 70 quarter-unit-pos halves t n l
 
 -- how far from zero cosine is at least
@@ -81,17 +81,17 @@ unfoldable pub sharp : ℕ
 sharp = 2 ^ 260
 
 above : T (settled 2 0 sharp 2 0 quarter quarterUnit 70)
-unfolding settled partial over fourth quarter quarterUnit sharp
+unfolding settled partial denominator fourth quarter quarterUnit sharp
 above = tt
 
 -- cosine is at least 2 / sharp
-pub quarter-above : (n : ℕ) → 70 ≤ n → sharp * partial (fourth 2) quarter quarterUnit n + 2 * over quarterUnit n ≤ sharp * partial (fourth 0) quarter quarterUnit n
+pub quarter-above : (n : ℕ) → 70 ≤ n → sharp * partial (fourth 2) quarter quarterUnit n + 2 * denominator quarterUnit n ≤ sharp * partial (fourth 0) quarter quarterUnit n
 quarter-above n l = omega (arith, later 2 0 sharp 2 0 quarter quarterUnit 70 quarter-unit-pos halves above n l)
 
 beneath : T (settled 0 2 sharp 2 0 (suc quarter) quarterUnit 70)
-unfolding settled partial over fourth quarter quarterUnit sharp
+unfolding settled partial denominator fourth quarter quarterUnit sharp
 beneath = tt
 
 -- at the next fraction it is at most - 2 / sharp
-pub next-beneath : (n : ℕ) → 70 ≤ n → sharp * partial (fourth 0) (suc quarter) quarterUnit n + 2 * over quarterUnit n ≤ sharp * partial (fourth 2) (suc quarter) quarterUnit n
+pub next-beneath : (n : ℕ) → 70 ≤ n → sharp * partial (fourth 0) (suc quarter) quarterUnit n + 2 * denominator quarterUnit n ≤ sharp * partial (fourth 2) (suc quarter) quarterUnit n
 next-beneath n l = omega (arith, later 0 2 sharp 2 0 (suc quarter) quarterUnit 70 quarter-unit-pos next-halves beneath n l)

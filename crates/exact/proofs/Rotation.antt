@@ -3,29 +3,29 @@ use mathlib.Core.Path.{_≡_}
 use Prim.Native.Nat.{ℕ, _+_, _*_, _≤_, _<_}
 use native.Mathlib.Nat.{add-comm, mul-add, mul-le-mul-left}
 use native.Mathlib.Omega.{arith}
-use Rattle.exact.specs.Series.{partial, over, fourth}
+use Rattle.exact.specs.Series.{partial, denominator, fourth}
 use Rattle.exact.proofs.Series.{over-pos}
 use Rattle.exact.proofs.Addition.{Added}
 use Rattle.exact.proofs.Within.{Within, within-sym, within-mul, within-cancel}
 
 -- up to the term n, cos (p / q) is within A / e of α and sin (p / q) within B / e of β
 pub record Known (α β A B e p q n : ℕ) : Type 0 where
-  pub cosine : Within (e * partial (fourth 0) p q n) (e * (partial (fourth 2) p q n + α * over q n)) (A * over q n)
-  pub sine : Within (e * partial (fourth 1) p q n) (e * (partial (fourth 3) p q n + β * over q n)) (B * over q n)
+  pub cosine : Within (e * partial (fourth 0) p q n) (e * (partial (fourth 2) p q n + α * denominator q n)) (A * denominator q n)
+  pub sine : Within (e * partial (fourth 1) p q n) (e * (partial (fourth 3) p q n + β * denominator q n)) (B * denominator q n)
 
 -- up to the term n, cos (p / q) and sin (p / q) are at most K / N from zero
 pub record Sized (K N p q n : ℕ) : Type 0 where
-  pub cosine : Within (N * partial (fourth 0) p q n) (N * partial (fourth 2) p q n) (K * over q n)
-  pub sine : Within (N * partial (fourth 1) p q n) (N * partial (fourth 3) p q n) (K * over q n)
+  pub cosine : Within (N * partial (fourth 0) p q n) (N * partial (fourth 2) p q n) (K * denominator q n)
+  pub sine : Within (N * partial (fourth 1) p q n) (N * partial (fourth 3) p q n) (K * denominator q n)
 
 -- up to the term n, cos (p' / q) and sin (p' / q) are within D / e of α cos (p / q) - β sin (p / q) and β cos (p / q) + α sin (p / q)
 pub record Rotated (α β D e p p′ q n : ℕ) : Type 0 where
   pub cosine :
       Within (e * (partial (fourth 0) p′ q n + (α * partial (fourth 2) p q n + β * partial (fourth 1) p q n)))
-      (e * (partial (fourth 2) p′ q n + (α * partial (fourth 0) p q n + β * partial (fourth 3) p q n))) (D * over q n)
+      (e * (partial (fourth 2) p′ q n + (α * partial (fourth 0) p q n + β * partial (fourth 3) p q n))) (D * denominator q n)
   pub sine :
       Within (e * (partial (fourth 1) p′ q n + (β * partial (fourth 2) p q n + α * partial (fourth 3) p q n)))
-      (e * (partial (fourth 3) p′ q n + (β * partial (fourth 0) p q n + α * partial (fourth 1) p q n))) (D * over q n)
+      (e * (partial (fourth 3) p′ q n + (β * partial (fourth 0) p q n + α * partial (fourth 1) p q n))) (D * denominator q n)
 
 -- F o is at most a, and a at most e o o more
 record Under (F a e o : ℕ) : Type 0 where
@@ -70,7 +70,7 @@ rotated {α} {β} {A} {B} {e} {N} {K} {p} {t} {q} {n} pos h s k =
     }
   where
     o : ℕ
-    o = over q n
+    o = denominator q n
 
     plus : (a b c d : ℕ) → a + b + c + d ≡ a + c + (b + d)
     plus a b c d = omega arith

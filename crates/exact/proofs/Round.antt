@@ -3,7 +3,7 @@ use mathlib.Core.Path.{_≡_, refl, ap}
 use Prim.Native.Nat.{ℕ, zero, suc, _+_, _*_, _^_, _≤_, _<_}
 use native.Mathlib.Nat.{le-trans, le-mul-of-pos-right, mul-comm, mul-one, pow-zero, pow-suc, mul-pos, mul-le-mul, mul-le-mul-left, mul-le-mul-right, le-of-mul-le-mul-right, one-le-pow}
 use native.Mathlib.Omega.{arith}
-use Rattle.exact.specs.Series.{partial, over, fourth}
+use Rattle.exact.specs.Series.{partial, denominator, fourth}
 use Rattle.exact.proofs.Series.{below-power, over-pos, over-scale, partial-scale}
 use Rattle.exact.proofs.Addition.{Added, addition}
 use Rattle.exact.proofs.Within.{Within, within-mul, distance, root-order}
@@ -60,7 +60,7 @@ sine-gap x x′ y y′ = let c = within-mul (distance x x′ .close) (distance y
 -- up to the term n, the sum of the squares of cos (p / q) and sin (p / q) is at most 1 + 1 / N
 record Round (N p q n : ℕ) : Type 0 where
   holds : N * (gap (partial (fourth 0) p q n) (partial (fourth 2) p q n) * gap (partial (fourth 0) p q n) (partial (fourth 2) p q n) +
-      gap (partial (fourth 1) p q n) (partial (fourth 3) p q n) * gap (partial (fourth 1) p q n) (partial (fourth 3) p q n)) ≤ suc N * (over q n * over q n)
+      gap (partial (fourth 1) p q n) (partial (fourth 3) p q n) * gap (partial (fourth 1) p q n) (partial (fourth 3) p q n)) ≤ suc N * (denominator q n * denominator q n)
 
 circle : (X Y : ℕ) → gap (X * X) (Y * Y) * gap (X * X) (Y * Y) + 2 * (X * Y) * (2 * (X * Y)) ≡ (X * X + Y * Y) * (X * X + Y * Y)
 circle X Y = omega (arith, distance (X * X) (Y * Y) .square)
@@ -82,7 +82,7 @@ doubled N o X Y X′ Y′ pos c s r =
 twice : (N p q n : ℕ) → 0 < q → Added p p q (16 * (suc N * suc N)) n → Round (2 * suc N) p q n → Round N (p + p) q n
 twice N p q n pos h r = record {
   holds =
-      doubled N (over q n) _ _ _ _ (over-pos q n pos)
+      doubled N (denominator q n) _ _ _ _ (over-pos q n pos)
       (distance (partial (fourth 0) (p + p) q n) (partial (fourth 2) (p + p) q n) .tight _ _ (carried _ _ _ _ _ _ _ (h .least0) (h .most0) (h .least2) (h .most2) (cosine-gap _ _ _ _)))
       (distance (partial (fourth 1) (p + p) q n) (partial (fourth 3) (p + p) q n) .tight _ _ (carried _ _ _ _ _ _ _ (h .least1) (h .most1) (h .least3) (h .most3) (sine-gap _ _ _ _)))
       (r .holds);
@@ -114,7 +114,7 @@ record Rounds (N p q : ℕ) : Type 0 where
 round-small : (N p q n : ℕ) → 0 < q → p * p * (N + 2) ≤ q * q → 5 ≤ n → Round N p q n
 round-small N p q n pos small many = record {
   holds =
-      through _ _ (over q n) (distance (partial (fourth 0) p q n) (partial (fourth 2) p q n) .tight 1 _ cosine)
+      through _ _ (denominator q n) (distance (partial (fourth 0) p q n) (partial (fourth 2) p q n) .tight 1 _ cosine)
       (distance (partial (fourth 1) p q n) (partial (fourth 3) p q n) .tight q _ sine);
 }
   where
@@ -124,10 +124,10 @@ round-small N p q n pos small many = record {
     early : 5 * p ≤ 8 * q
     early = omega (arith, less)
 
-    cosine : Within (1 * partial (fourth 0) p q n) (1 * partial (fourth 2) p q n) (over q n)
+    cosine : Within (1 * partial (fourth 0) p q n) (1 * partial (fourth 2) p q n) (denominator q n)
     cosine = record { least = omega (arith, cosine-most p q n many pos early); most = omega (arith, cosine-plus p q n many pos early less) }
 
-    sine : Within (q * partial (fourth 1) p q n) (q * partial (fourth 3) p q n) (p * over q n)
+    sine : Within (q * partial (fourth 1) p q n) (q * partial (fourth 3) p q n) (p * denominator q n)
     sine = record { least = sine-most p q n many pos early; most = omega (arith, mul-le-mul-left q (sine-least p q n many pos early)) }
 
     through : (X Y o : ℕ) → 1 * X ≤ o → q * Y ≤ p * o → N * (X * X + Y * Y) ≤ suc N * (o * o)

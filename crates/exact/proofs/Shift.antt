@@ -4,7 +4,7 @@ use Prim.Native.Nat.{ℕ, zero, suc, _+_, _*_, _^_, _≤_, _<_}
 use native.Mathlib.Nat.{le-trans, le-mul-of-pos-right, mul-pos, mul-le-mul-left, mul-le-mul-right, le-of-mul-le-mul-right, one-le-pow, le-dest, le-of-lt, lt-of-not-le}
 use native.Mathlib.Decide.{decLe}
 use native.Mathlib.Omega.{arith}
-use Rattle.exact.specs.Series.{partial, over, fourth}
+use Rattle.exact.specs.Series.{partial, denominator, fourth}
 use Rattle.exact.proofs.Series.{over-scale, partial-scale}
 use Rattle.exact.proofs.Addition.{addition}
 use Rattle.exact.proofs.Within.{Within, within-cancel}
@@ -15,8 +15,8 @@ use Rattle.exact.proofs.Limits.{near-through, Both, both-wider, both-sc
 
 -- up to the term n, cosine and sine at p' / q are within c / e of those at p / q
 record Steady (c e p p′ q n : ℕ) : Type 0 where
-  cosine : Within (e * (partial (fourth 0) p′ q n + partial (fourth 2) p q n)) (e * (partial (fourth 2) p′ q n + partial (fourth 0) p q n)) (c * over q n)
-  sine : Within (e * (partial (fourth 1) p′ q n + partial (fourth 3) p q n)) (e * (partial (fourth 3) p′ q n + partial (fourth 1) p q n)) (c * over q n)
+  cosine : Within (e * (partial (fourth 0) p′ q n + partial (fourth 2) p q n)) (e * (partial (fourth 2) p′ q n + partial (fourth 0) p q n)) (c * denominator q n)
+  sine : Within (e * (partial (fourth 1) p′ q n + partial (fourth 3) p q n)) (e * (partial (fourth 3) p′ q n + partial (fourth 1) p q n)) (c * denominator q n)
 
 -- from some term on
 record Steadily (c e p p′ q : ℕ) : Type 0 where
@@ -30,7 +30,7 @@ nearly-still : (h g q n : ℕ) → 0 < q → 0 < g → h * g ≤ q → 5 ≤ n �
 nearly-still h g q n qpos gpos small many = record {
   cosine = record {
     least = omega (arith, mul-le-mul-left (q * g) (cosine-most h q n many qpos (omega (arith, less))));
-    most = le-of-mul-le-mul-right (low (partial (fourth 0) h q n) (partial (fourth 2) h q n) (over q n) (cosine-least h q n many qpos (omega (arith, less)) (omega (arith, less)))) qpos;
+    most = le-of-mul-le-mul-right (low (partial (fourth 0) h q n) (partial (fourth 2) h q n) (denominator q n) (cosine-least h q n many qpos (omega (arith, less)) (omega (arith, less)))) qpos;
   };
   sine = record {
     least = omega (arith, mul-le-mul-left g (sine-most h q n many qpos (omega (arith, less))));

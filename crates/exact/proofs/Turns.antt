@@ -3,7 +3,7 @@ use mathlib.Core.Path.{_≡_, refl}
 use Prim.Native.Nat.{ℕ, zero, suc, _+_, _*_, _/_, _%_, _^_, _≤_, _<_}
 use native.Mathlib.Nat.{zero-add, zero-mul, div-add-mod, mul-comm, mul-assoc, mul-pos, mul-le-mul-right}
 use native.Mathlib.Omega.{arith}
-use Rattle.exact.specs.Series.{partial, over, fourth}
+use Rattle.exact.specs.Series.{partial, denominator, fourth}
 use Rattle.exact.proofs.Series.{over-scale, partial-scale}
 use Rattle.exact.proofs.Addition.{addition}
 use Rattle.exact.proofs.Within.{Within}
@@ -45,11 +45,11 @@ module _ (f c q : ℕ) (from : ℕ) (turn : (n : ℕ) → from ≤ n → Known 0
       rotation n l = rotated qpos (addition p c q (5 * f) qpos .holds n (omega arith)) (bounded 1 p q qpos .holds n (omega arith)) (turn n (omega arith))
 
       step-cosine : {e n : ℕ} → Rotated 0 1 5 e p (p + c) q n →
-          Within (e * (partial (fourth 0) (p + c) q n + partial (fourth 1) p q n)) (e * (partial (fourth 2) (p + c) q n + partial (fourth 3) p q n)) (5 * over q n)
+          Within (e * (partial (fourth 0) (p + c) q n + partial (fourth 1) p q n)) (e * (partial (fourth 2) (p + c) q n + partial (fourth 3) p q n)) (5 * denominator q n)
       step-cosine r = omega (arith, r .cosine)
 
       step-sine : {e n : ℕ} → Rotated 0 1 5 e p (p + c) q n →
-          Within (e * (partial (fourth 1) (p + c) q n + partial (fourth 2) p q n)) (e * (partial (fourth 3) (p + c) q n + partial (fourth 0) p q n)) (5 * over q n)
+          Within (e * (partial (fourth 1) (p + c) q n + partial (fourth 2) p q n)) (e * (partial (fourth 3) (p + c) q n + partial (fourth 0) p q n)) (5 * denominator q n)
       step-sine r = omega (arith, r .sine)
 
       wider : (a * (1 * (5 * f)) + b * 5) * (b * f) ≤ (a * f + b) * (b * (1 * (5 * f)))

@@ -5,7 +5,7 @@ use native.Mathlib.Nat.{le-of-lt, lt-of-not-le, le-dest, mul-comm, mul-pos, mul-
 use native.Mathlib.Decide.{decLe}
 use native.Mathlib.Omega.{arith}
 use lib.Dec.{leb→le}
-use Rattle.exact.specs.Series.{partial, over, fourth}
+use Rattle.exact.specs.Series.{partial, denominator, fourth}
 use Rattle.exact.specs.Circle.{QuarterTurn}
 use Rattle.exact.proofs.Series.{over-pos, over-scale, partial-scale}
 use Rattle.exact.proofs.Addition.{Added, addition}
@@ -19,7 +19,7 @@ use Rattle.exact.proofs.Quarter.{quarter, quarterUnit, sharp, quarter-u
 -- from some term on, cos (p / q) is at least 1 / sharp
 record Above (p q : ℕ) : Type 0 where
   from : ℕ
-  holds : (n : ℕ) → from ≤ n → sharp * partial (fourth 2) p q n + over q n ≤ sharp * partial (fourth 0) p q n
+  holds : (n : ℕ) → from ≤ n → sharp * partial (fourth 2) p q n + denominator q n ≤ sharp * partial (fourth 0) p q n
 
 sharp-least : 3 ≤ sharp
 unfolding sharp
@@ -59,12 +59,12 @@ divided s x x′ u u′ o pos l m h =
     none w less down = omega (arith, mul-le-mul-left (s * w) down, mul-pos pos pos)
 
 -- cos s is at least 1 / S, where cos (s + t) is at least 2 / S, sin s and sin t are not below zero, and cos t is from 0 to 1
-above-sum : (S p r q n : ℕ) → 0 < q → Added p r q S n → S * partial (fourth 2) (p + r) q n + 2 * over q n ≤ S * partial (fourth 0) (p + r) q n →
+above-sum : (S p r q n : ℕ) → 0 < q → Added p r q S n → S * partial (fourth 2) (p + r) q n + 2 * denominator q n ≤ S * partial (fourth 0) (p + r) q n →
     partial (fourth 3) p q n ≤ partial (fourth 1) p q n → partial (fourth 3) r q n ≤ partial (fourth 1) r q n →
-    partial (fourth 2) r q n ≤ partial (fourth 0) r q n → partial (fourth 0) r q n ≤ partial (fourth 2) r q n + over q n →
-    S * partial (fourth 2) p q n + over q n ≤ S * partial (fourth 0) p q n
+    partial (fourth 2) r q n ≤ partial (fourth 0) r q n → partial (fourth 0) r q n ≤ partial (fourth 2) r q n + denominator q n →
+    S * partial (fourth 2) p q n + denominator q n ≤ S * partial (fourth 0) p q n
 above-sum S p r q n pos h up ly lv lu mu =
-    divided S _ _ _ _ (over q n) (over-pos q n pos) lu mu (through _ _ _ _ _ _ _ _ _ _ _ (h .least0) (h .most2) up (product _ _ _ _ ly lv))
+    divided S _ _ _ _ (denominator q n) (over-pos q n pos) lu mu (through _ _ _ _ _ _ _ _ _ _ _ (h .least0) (h .most2) up (product _ _ _ _ ly lv))
   where
     product : (y y′ v v′ : ℕ) → y′ ≤ y → v′ ≤ v → y * v′ + y′ * v ≤ y * v + y′ * v′
     product y y′ v v′ l m =
@@ -87,7 +87,7 @@ module _ (p q r : ℕ) (pos : 0 < q) (large : 4 * q ≤ 5 * p) (sum : p * quarte
   rest : 5 * r ≤ 4 * (q * quarterUnit)
   rest = omega (arith, whole, mul-le-mul-right quarterUnit large)
 
-  at-sum : (n : ℕ) → 70 ≤ n → sharp * partial (fourth 2) (p * quarterUnit + r) (q * quarterUnit) n + 2 * over (q * quarterUnit) n ≤ sharp * partial (fourth 0) (p * quarterUnit + r) (q * quarterUnit) n
+  at-sum : (n : ℕ) → 70 ≤ n → sharp * partial (fourth 2) (p * quarterUnit + r) (q * quarterUnit) n + 2 * denominator (q * quarterUnit) n ≤ sharp * partial (fourth 0) (p * quarterUnit + r) (q * quarterUnit) n
   at-sum n l =
       rw (sum, mul-comm q quarterUnit, partial-scale (fourth 0) quarter quarterUnit q n, partial-scale (fourth 2) quarter quarterUnit q n, over-scale quarterUnit q n)
       (times sharp _ _ _ (q ^ n) (quarter-above n l))

@@ -10,19 +10,19 @@ partial f p q zero = f 0
 partial f p q (suc n) = partial f p q n * (suc n * q) + f (suc n) * p ^ suc n
 
 -- n! q ^ n
-unfoldable pub over : ℕ → ℕ → ℕ
-over q zero = 1
-over q (suc n) = over q n * (suc n * q)
+unfoldable pub denominator : ℕ → ℕ → ℕ
+denominator q zero = 1
+denominator q (suc n) = denominator q n * (suc n * q)
 
 -- the weights that are 1 where k leaves r when divided by 4, and 0 elsewhere
 unfoldable pub fourth : ℕ → ℕ → ℕ
 fourth r k = cond (eqb (k % 4) r) 1 0
 
--- the limit of (F n - G n) / D n is within a / b of (P - N) / U: from some n on, all of them are
-pub record LimitNear (F G D : ℕ → ℕ) (P N U a b : ℕ) : Type 0 where
+-- the limit of (F n - G n) / D n is within a / b of (p - m) / u: from some n on, all of them are
+pub record LimitNear (F G D : ℕ → ℕ) (p m u a b : ℕ) : Type 0 where
   pub from : ℕ
-  pub least : (n : ℕ) → from ≤ n → b * (P * D n + U * G n) ≤ b * (N * D n + U * F n) + a * (U * D n)
-  pub most : (n : ℕ) → from ≤ n → b * (N * D n + U * F n) ≤ b * (P * D n + U * G n) + a * (U * D n)
+  pub least : (n : ℕ) → from ≤ n → b * (p * D n + u * G n) ≤ b * (m * D n + u * F n) + a * (u * D n)
+  pub most : (n : ℕ) → from ≤ n → b * (m * D n + u * F n) ≤ b * (p * D n + u * G n) + a * (u * D n)
 
 -- the limit of (F n - G n) / D n is not below zero: for every b, from some n on, none of them is below - 1 / b
 pub record LimitPlus (F G D : ℕ → ℕ) : Type 0 where

@@ -1,8 +1,20 @@
-// Taking a float apart into whole numbers, and putting one together.
+// Reading a float's bits, taking it apart into whole numbers, and putting one together.
 
 ghost use mathlib.Core.Path.{_≡_};
+ghost use lib.Ieee.{binary32, toBits};
 ghost use Rattle.fixed.specs.Parts.{Positive, Apart};
 ghost use Rattle.fixed.specs.Rounded.{Normal, nearestBits};
+
+// The bit pattern of every float, 0x7fc00000 of a NaN. That one comparison is all that is asked of the float unit, and none of its modes
+// disturbs it: rounding, subnormals that are read as zero.
+pub fn bits_of(x: f32) -> u32
+    ensures { λ r. ⌜ r ≡ toBits binary32 x ⌝ }
+{
+    if x != x {
+        return 0x7fc0_0000;
+    }
+    f32::to_bits(x)
+}
 
 pub struct Parts {
     pub m: u32,

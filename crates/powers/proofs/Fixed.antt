@@ -8,10 +8,11 @@ use lib.Pow.{pow-pos}
 use lib.Ieee.{Float}
 use Rattle.units.specs.Units.{P, N, Le}
 use Rattle.exact.specs.Power.{AtMost, AtLeast}
-use Rattle.exact.proofs.Power.{most-of-less, least-of-more, least-pos, most-shift, least-shift}
+use Rattle.exact.proofs.Power.{most-of-less, least-of-more, most-shift, least-shift}
 use Rattle.fixed.proofs.Horner.{quotients}
 use Rattle.powers.specs.Raised.{raised}
-use Rattle.powers.specs.Exp2.{Accepts, cutOf}
+use Rattle.powers.specs.Exp2.{Accepts}
+use Rattle.powers.specs.Value.{cutOf}
 use Rattle.powers.specs.Fixed.{fixedDigits, fixedExponent, fixedPower, fixedAbove, fixedBelow, FixedExp2}
 use Rattle.powers.proofs.Method.{D, raised-zero, raised-mono, raised-top, raised-rises, raised-most, raised-least}
 use Rattle.powers.proofs.Reduction.{K, most-uncut, least-uncut, cut-mono}
@@ -49,7 +50,7 @@ module _ (x : Float) (a : Accepts x) where
 
   below : AtLeast ((D + fixedBelow) * (raised f * 2 ^ g)) (D * 2 ^ 158) (P x) (N x) (2 ^ 149)
   below =
-      least-of-more (least-pos (lit< tt) (lit< tt) whole)
+      least-of-more (lit< tt)
       (through (D + fixedBelow) (D * 2 ^ 158) _ (2 * D + 1) (10 * D + 7) (4 * D + 25) (raised f) (2 ^ g) ((4 * raised f + 5) * D + 32 * f) floors (lit≤ tt)) whole
     where
       whole : AtLeast ((2 * D + 1) * ((4 * raised f + 5) * D + 32 * f) * 2 ^ g * (10 * D + 7)) (2 * D * (4 * D * D) * 2 ^ 126 * (10 * D)) (P x) (N x) (2 ^ 149)
@@ -91,7 +92,7 @@ pub fixed : (x : Float) → Accepts x → FixedExp2 x (fixedDigits x) (fixedExpo
 unfolding fixedDigits fixedExponent
 fixed x a = record {
   digits = refl;
-  exponent = refl;
+  whole-part = refl;
   least = raised-first (f x a);
   most = raised-top (f x a) (fraction x a);
   at-most = above x a;

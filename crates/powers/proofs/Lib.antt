@@ -4,5 +4,4 @@ pub mod Reduction
 pub mod Taken
 pub mod Order
 pub mod Fixed
-pub mod Range
 pub mod Promise

@@ -7,7 +7,7 @@ use native.Mathlib.Omega.{arith}
 use lib.Dec.{lit<, lit≤}
 use Rattle.exact.specs.Power.{AtMost, AtLeast}
 use Rattle.exact.specs.Polynomial.{value}
-use Rattle.exact.proofs.Power.{least-of-more, most-of-less, least-pos}
+use Rattle.exact.proofs.Power.{least-of-more, most-of-less}
 use Rattle.exact.proofs.Pieces.{knots, end}
 use Rattle.exact.proofs.Near.{near-least, near-most, high-enough, low-enough}
 use Rattle.exact.proofs.Tight.{upper, lower, tight-above, tight-below}
@@ -22,11 +22,11 @@ D = 2 ^ 32
 -- the polynomial itself is within half a unit of 2 ^ t, relatively
 near-above : (p q : ℕ) → 0 < q → p ≤ q → AtLeast ((2 * D + 1) * value 7 coefficients p q) (2 * D * (D * q ^ 7)) p 0 q
 unfolding coefficients upper high-enough knots end
-near-above p q pos small = near-least 7 5 coefficients D (2 * D + 1) (2 * D) upper (2 ^ 48) 4 (knots 1 4 0) (lit< tt) refl (lit≤ tt) p q pos small tight-above tt
+near-above p q pos small = near-least 7 5 coefficients D (2 * D + 1) (2 * D) upper (2 ^ 48) 4 (knots 1 4 0) (lit< tt) refl (lit≤ tt) p q pos small (lit< tt) (lit< tt) tight-above tt
 
 near-below : (p q : ℕ) → 0 < q → p ≤ q → AtMost (2 * D * value 7 coefficients p q) ((2 * D + 1) * (D * q ^ 7)) p 0 q
 unfolding coefficients lower low-enough knots end
-near-below p q pos small = near-most 7 5 coefficients D (2 * D + 1) (2 * D) lower (2 ^ 48) 4 (knots 1 4 0) (lit< tt) refl (lit≤ tt) p q pos small tight-below tt
+near-below p q pos small = near-most 7 5 coefficients D (2 * D + 1) (2 * D) lower (2 ^ 48) 4 (knots 1 4 0) (lit< tt) refl (lit≤ tt) p q pos small (lit< tt) (lit< tt) tight-below tt
 
 -- ---- the floors
 
@@ -79,7 +79,7 @@ raised-most f small = most-of-less (lit< tt) (through D (D ^ 7) (raised f) (valu
 -- 2 ^ (f / D) ≤ (1 + 1 / (2 D)) (raised f + 5 / 4 + 8 f / D) / D: more than the floors of one chain lose, so that two chains which meet in one floor keep it too
 pub raised-least : (f : ℕ) → f ≤ D → AtLeast ((2 * D + 1) * ((4 * raised f + 5) * D + 32 * f)) (2 * D * (4 * D * D)) f 0 D
 raised-least f small =
-    least-of-more (least-pos (lit< tt) (lit< tt) near) (through D (D ^ 6) (raised f) (value 7 coefficients f D) (above f small)) near
+    least-of-more (lit< tt) (through D (D ^ 6) (raised f) (value 7 coefficients f D) (above f small)) near
   where
     near : AtLeast ((2 * D + 1) * value 7 coefficients f D) (2 * D * (D * D ^ 7)) f 0 D
     near = near-above f D (lit< tt) small

@@ -9,7 +9,7 @@ use lib.Pow.{pow-mono}
 use lib.Ieee.{binary32, ofBits}
 use Rattle.units.proofs.Naturals.{le-or-lt}
 use Rattle.units.proofs.Bits.{Is, put-positive}
-use Rattle.powers.specs.Exp2.{digitsOf}
+use Rattle.powers.specs.Value.{powerDigits}
 use Rattle.powers.proofs.Method.{D}
 use Rattle.powers.proofs.Rounding.{digits-zero, digits-mono, digits-first, digits-last}
 
@@ -19,7 +19,7 @@ exponentOf X = X / 2 ^ 32
 
 -- the digits of its fraction's power
 abbrev pub fractionDigits : ℕ → ℕ
-fractionDigits X = digitsOf (X % 2 ^ 32)
+fractionDigits X = powerDigits (X % 2 ^ 32)
 
 -- these are 24
 pub first : (X : ℕ) → 2 ^ 23 ≤ fractionDigits X
@@ -34,7 +34,7 @@ pub pattern-in : (X : ℕ) → X ≤ 253 * D → exponentOf X * 8388608 + fracti
 pattern-in X h = elim (le-or-lt (253 * D) X) [
   | inl l ↦
       let z : X % D ≡ 0 = omega arith in
-      let d : fractionDigits X ≡ 8388608 = ap digitsOf z ∙ digits-zero in
+      let d : fractionDigits X ≡ 8388608 = ap powerDigits z ∙ digits-zero in
       omega arith
   | inr l ↦ omega (arith, last X)
 ]
@@ -60,4 +60,4 @@ pieces-mono h L grows first last X X′ l = elim (le-or-lt (exponentOf X) (expon
 
 -- a larger number has no fewer units
 pub units-mono : (X X′ : ℕ) → X′ ≤ X → fractionDigits X′ * 2 ^ exponentOf X′ ≤ fractionDigits X * 2 ^ exponentOf X
-units-mono = pieces-mono digitsOf (2 ^ 23) (λ f g l. digits-mono l) digits-first digits-last
+units-mono = pieces-mono powerDigits (2 ^ 23) (λ f g l. digits-mono l) digits-first digits-last

@@ -1,5 +1,5 @@
 -- The promise of 2 ^ x, put together from the rooms: Method and Rounding (the fraction), Reduction (the argument), Order (the pieces). Assumes nothing.
-use mathlib.Core.Path.{_≡_, sym, ap, subst, _∙_}
+use mathlib.Core.Path.{_≡_, refl, sym, ap, _∙_}
 use mathlib.Core.Bool.{false}
 use Prim.Native.Nat.{ℕ, _+_, _-_, _*_, _%_, _^_, _≤_, _<_}
 use native.Mathlib.Nat.{le-trans, one-le-mul, mul-sub, mul-le-mul-right, le-mul-of-pos-right}
@@ -7,17 +7,20 @@ use native.Mathlib.Omega.{arith}
 use lib.Dec.{lit<, lit≤}
 use lib.Pow.{pow-add, pow-pos}
 use lib.Ieee.{Float}
-use Rattle.units.specs.Units.{P, N, Number, Le}
+use Rattle.units.specs.Units.{P, N, Le}
 use Rattle.units.proofs.Signs.{plus-of, minus-of}
-use Rattle.units.proofs.Answers.{given, declined}
-use Rattle.units.proofs.Bits.{Is}
+use Rattle.units.specs.Answers.{Ends, floatBits}
+use Rattle.units.proofs.Answers.{given, declined, written, untouched}
+use Rattle.units.proofs.Bits.{Is, no-nan-positive}
+use Rattle.units.proofs.Patterns.{pattern-back}
 use Rattle.exact.specs.Power.{AtMost, AtLeast}
-use Rattle.exact.proofs.Power.{most-of-less, least-of-more, least-pos, most-shift, least-shift}
-use Rattle.powers.specs.Exp2.{Accepts, Within, cutOf, digitsOf, exp2Of, exp2Error, exp2Unit, Exp2}
+use Rattle.exact.proofs.Power.{most-of-less, least-of-more, most-shift, least-shift}
+use Rattle.powers.specs.Exp2.{Accepts, NearPower, exp2ErrorNum, exp2ErrorDen, Exp2}
+use Rattle.powers.specs.Value.{cutOf, powerDigits, exp2Bits, exp2Of}
 use Rattle.powers.proofs.Method.{D}
 use Rattle.powers.proofs.Rounding.{digits-zero, digits-most, digits-least}
 use Rattle.powers.proofs.Reduction.{most-uncut, least-uncut, cut-whole, cut-top, cut-mono}
-use Rattle.powers.proofs.Order.{exponentOf, fractionDigits, first, pattern-is, units-mono}
+use Rattle.powers.proofs.Order.{exponentOf, fractionDigits, first, pattern-in, pattern-is, units-mono}
 
 module _ (x : Float) (a : Accepts x) where
   abbrev X : ℕ
@@ -34,7 +37,7 @@ module _ (x : Float) (a : Accepts x) where
 
   -- the value function's float has S 2 ^ g units
   pub exp2-is : Is (exp2Of x) false (S * 2 ^ g)
-  unfolding exp2Of
+  unfolding exp2Of exp2Bits
   exp2-is = pattern-is X (cut-top x a)
 
   exp2-units : P (exp2Of x) ≡ S * 2 ^ g
@@ -48,8 +51,8 @@ module _ (x : Float) (a : Accepts x) where
   fraction : f ≤ D
   fraction = omega arith
 
-  within-most : AtMost (exp2Unit * P (exp2Of x)) ((exp2Unit + exp2Error) * 2 ^ 149) (P x) (N x) (2 ^ 149)
-  within-most = rw exp2-units (most-of-less (lit< tt) (through exp2Unit _ (2 * D * D) (10 * D) ((exp2Unit + exp2Error) * 2 ^ 149) S (2 ^ g) (lit≤ tt)) whole)
+  within-most : AtMost (exp2ErrorDen * P (exp2Of x)) ((exp2ErrorDen + exp2ErrorNum) * 2 ^ 149) (P x) (N x) (2 ^ 149)
+  within-most = rw exp2-units (most-of-less (lit< tt) (through exp2ErrorDen _ (2 * D * D) (10 * D) ((exp2ErrorDen + exp2ErrorNum) * 2 ^ 149) S (2 ^ g) (lit≤ tt)) whole)
     where
       whole : AtMost (2 * D * D * (512 * S) * 2 ^ g * (10 * D)) ((2 * D + 1) * (D + 256) * D * 2 ^ 126 * (10 * D + 7)) (P x) (N x) (2 ^ 149)
       whole = most-uncut x a (rw parts at (most-shift g 126 (digits-most f fraction)))
@@ -57,11 +60,11 @@ module _ (x : Float) (a : Accepts x) where
       through : (b d n t z s G : ℕ) → b * d ≤ n * 512 * t * z → b * (s * G) * d ≤ n * (512 * s) * G * t * z
       through b d n t z s G h = omega (arith, mul-le-mul-right (s * G) h)
 
-  within-least : AtLeast (exp2Unit * P (exp2Of x)) ((exp2Unit - exp2Error) * 2 ^ 149) (P x) (N x) (2 ^ 149)
+  within-least : AtLeast (exp2ErrorDen * P (exp2Of x)) ((exp2ErrorDen - exp2ErrorNum) * 2 ^ 149) (P x) (N x) (2 ^ 149)
   within-least =
       rw exp2-units
-      (least-of-more (least-pos (lit< tt) (lit< tt) whole)
-      (through exp2Unit _ ((2 * D + 1) * (400 * D + 102501)) (10 * D + 7) ((exp2Unit - exp2Error) * 2 ^ 149) S (2 ^ g) (lit≤ tt)) whole)
+      (least-of-more (lit< tt)
+      (through exp2ErrorDen _ ((2 * D + 1) * (400 * D + 102501)) (10 * D + 7) ((exp2ErrorDen - exp2ErrorNum) * 2 ^ 149) S (2 ^ g) (lit≤ tt)) whole)
     where
       whole : AtLeast ((2 * D + 1) * (400 * D + 102501) * (512 * S) * 2 ^ g * (10 * D + 7)) (2 * D * (400 * D * D) * 2 ^ 126 * (10 * D)) (P x) (N x) (2 ^ 149)
       whole = least-uncut x a (rw parts at (least-shift g 126 (digits-least f fraction)))
@@ -69,7 +72,7 @@ module _ (x : Float) (a : Accepts x) where
       through : (b d n t z s G : ℕ) → n * 512 * t * z ≤ b * d → n * (512 * s) * G * t * z ≤ b * (s * G) * d
       through b d n t z s G h = omega (arith, mul-le-mul-right (s * G) h)
 
-  exp2-near : Within exp2Error exp2Unit x (exp2Of x)
+  exp2-near : NearPower exp2ErrorNum exp2ErrorDen x (exp2Of x)
   exp2-near = record { plus = minus-of (exp2Of x) (exp2-is .sign); at-most = within-most; at-least = within-least }
 
   -- ---- exact powers, normal results
@@ -79,7 +82,7 @@ module _ (x : Float) (a : Accepts x) where
       let c = cut-whole x a n m e in
       let z : f ≡ 0 = omega arith in
       let w : 23 + g + m ≡ n + 149 = omega arith in
-      ap (λ (u : ℕ). u * 2 ^ m) (exp2-units ∙ ap (λ (d : ℕ). digitsOf d * 2 ^ g) z ∙ ap (λ (d : ℕ). d * 2 ^ g) digits-zero ∙ sym (pow-add 2 23 g))
+      ap (λ (u : ℕ). u * 2 ^ m) (exp2-units ∙ ap (λ (d : ℕ). powerDigits d * 2 ^ g) z ∙ ap (λ (d : ℕ). d * 2 ^ g) digits-zero ∙ sym (pow-add 2 23 g))
       ∙ sym (pow-add 2 (23 + g) m)
       ∙ ap (λ (k : ℕ). 2 ^ k) w
       ∙ pow-add 2 n 149
@@ -101,11 +104,11 @@ exp2-order x a x′ a′ l =
 -- ---- weaker bounds
 
 -- what is within a / b of 2 ^ x is within every larger a′ / b′ of it
-pub weaker : {a b a′ b′ : ℕ} {x r : Float} → a < b → a * b′ ≤ a′ * b → Within a b x r → Within a′ b′ x r
+pub weaker : {a b a′ b′ : ℕ} {x r : Float} → a′ < b′ → a * b′ ≤ a′ * b → NearPower a b x r → NearPower a′ b′ x r
 weaker {a} {b} {a′} {b′} {x} {r} less wider w = record {
   plus = w .plus;
   at-most = most-of-less (one-le-mul (omega arith) (pow-pos 149)) (more (P r) (2 ^ 149)) (w .at-most);
-  at-least = least-of-more (least-pos (one-le-mul (omega arith) (pow-pos 149)) (pow-pos 149) (w .at-least)) (fewer (P r) (2 ^ 149)) (w .at-least);
+  at-least = least-of-more (one-le-mul (omega arith) (pow-pos 149)) (fewer (P r) (2 ^ 149)) (w .at-least);
 }
   where
     more : (p q : ℕ) → b′ * p * ((b + a) * q) ≤ b * p * ((b′ + a′) * q)
@@ -118,27 +121,41 @@ weaker {a} {b} {a′} {b′} {x} {r} less wider w = record {
         through c d h = omega (arith, mul-le-mul-right (p * q) h)
 
 -- so the result is within 2 ^ -22, which document 01 asks for
-pub as-asked : {x r : Float} → Within exp2Error exp2Unit x r → Within 1 (2 ^ 22) x r
+pub as-asked : {x r : Float} → NearPower exp2ErrorNum exp2ErrorDen x r → NearPower 1 (2 ^ 22) x r
 as-asked = weaker (lit< tt) (lit≤ tt)
 
 -- ---- the whole promise, of an accepted x and of any other
 
 -- code 0 and the value
-pub promised : (x before after : Float) → Accepts x → after ≡ exp2Of x → Exp2 x 0 before after
-promised x before after a e = record {
-  answers = given exp2Of x before after a e (subst Number (sym e) (exp2-is x a .number));
-  near = λ h. subst (λ (r : Float). Within exp2Error exp2Unit x r) (sym e) (exp2-near x a);
-  whole = λ h n m w. subst (λ (r : Float). P r * 2 ^ m ≡ 2 ^ n * 2 ^ 149) (sym e) (exp2-whole x a n m w);
-  normal = λ h. subst (λ (r : Float). 2 ^ 23 ≤ P r) (sym e) (exp2-normal x a);
-  order = λ h x′ a′ l. subst (λ (r : Float). Le (exp2Of x′) r) (sym e) (exp2-order x a x′ a′ l);
+promised : (x : Float) → Accepts x → Exp2 x 0 (exp2Of x)
+promised x a = record {
+  answers = given exp2Of x (exp2Of x) a refl (exp2-is x a .number);
+  near = λ h. exp2-near x a;
+  whole = λ h. exp2-whole x a;
+  normal = λ h. exp2-normal x a;
+  order = λ h. exp2-order x a;
 }
 
--- code 1 and nothing written
-pub refused : (x before : Float) → ¬ Accepts x → Exp2 x 1 before before
-refused x before n = record {
-  answers = declined exp2Of x before n;
+-- code 1
+refused : (x : Float) → ¬ Accepts x → Exp2 x 1 (exp2Of x)
+refused x n = record {
+  answers = declined exp2Of x (exp2Of x) n;
   near = λ h. absurd (n h);
   whole = λ h. absurd (n h);
   normal = λ h. absurd (n h);
   order = λ h. absurd (n h);
 }
+
+-- ---- how the call ends
+
+-- the pattern that is written is the value's
+pub success : (x : Float) {before after : ℕ} → Accepts x → after ≡ exp2Bits x → Ends floatBits (Exp2 x) 0 before after
+unfolding exp2Of exp2Bits
+success x a e = written (exp2Of x) (promised x a) (e ∙ sym (pattern-back _ (omega (arith, in-pattern)) (no-nan-positive _ in-pattern)))
+  where
+    in-pattern : exponentOf (cutOf x) * 8388608 + fractionDigits (cutOf x) < 255 * 8388608
+    in-pattern = pattern-in (cutOf x) (cut-top x a)
+
+-- nothing is written
+pub refusal : (x : Float) {before : ℕ} → ¬ Accepts x → Ends floatBits (Exp2 x) 1 before before
+refusal x n = untouched 1 (exp2Of x) (λ z. omega arith) (refused x n)

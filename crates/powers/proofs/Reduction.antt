@@ -15,7 +15,8 @@ use Rattle.exact.specs.Polynomial.{value}
 use Rattle.exact.proofs.Power.{least-of-more, at-most, most-mul, least-mul, most-of-larger, least-of-smaller}
 use Rattle.exact.proofs.Tight.{upper, tight-above}
 use Rattle.fixed.proofs.Horner.{quotients}
-use Rattle.powers.specs.Exp2.{Accepts, cutOf}
+use Rattle.powers.specs.Exp2.{Accepts}
+use Rattle.powers.specs.Value.{cutOf}
 use Rattle.powers.proofs.Method.{D}
 
 -- the units of a float that make one step of 2 ^ -32

@@ -14,7 +14,8 @@ use Rattle.units.specs.Units.{mag, negative, P, N}
 use Rattle.units.proofs.Naturals.{le-or-lt, pow-back-lt, pow-split}
 use Rattle.units.proofs.Signs.{sides, plus-of, minus-of}
 use Rattle.units.proofs.Bits.{signBit, pattern-subnormal, pattern-normal}
-use Rattle.powers.specs.Exp2.{Accepts, stepsOf, cutOf}
+use Rattle.powers.specs.Exp2.{Accepts}
+use Rattle.powers.specs.Value.{stepsOf, cutOf}
 use Rattle.powers.proofs.Reduction.{K, quotient}
 use Rattle.powers.proofs.Method.{D}
 

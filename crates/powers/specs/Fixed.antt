@@ -1,11 +1,12 @@
--- 2 ^ x in fixed point: digits and an exponent, before any rounding to a float. Definitions only.
+-- 2 ^ x in fixed point, on which softmax is built: digits and an exponent, before any rounding to a float. A reader of the promises need not read this. Definitions only.
 use mathlib.Core.Path.{_≡_}
 use Prim.Native.Nat.{ℕ, _+_, _*_, _/_, _%_, _^_, _≤_}
 use lib.Ieee.{Float}
 use Rattle.units.specs.Units.{P, N, Le}
 use Rattle.exact.specs.Power.{AtMost, AtLeast}
 use Rattle.powers.specs.Raised.{raised}
-use Rattle.powers.specs.Exp2.{Accepts, cutOf}
+use Rattle.powers.specs.Exp2.{Accepts}
+use Rattle.powers.specs.Value.{cutOf}
 
 -- what the program computes: the power of the fraction, in units of 2 ^ -32
 unfoldable pub fixedDigits : Float → ℕ
@@ -30,7 +31,7 @@ fixedBelow = 8
 -- r digits with the exponent e are 2 ^ x in fixed point
 pub record FixedExp2 (x : Float) (r e : ℕ) : Type 0 where
   pub digits : r ≡ fixedDigits x
-  pub exponent : e ≡ fixedExponent x
+  pub whole-part : e ≡ fixedExponent x
   -- from 1 to 2
   pub least : 2 ^ 32 ≤ r
   pub most : r ≤ 2 ^ 33

@@ -1,3 +1,4 @@
-pub mod Raised
 pub mod Exp2
+pub mod Raised
+pub mod Value
 pub mod Fixed

@@ -3,7 +3,10 @@
 ghost use mathlib.Core.Path.{_≡_};
 ghost use Prim.Native.Nat.{_+_, _*_, _/_, _%_, _<_, _≤_, _^_};
 ghost use Rattle.powers.specs.Raised.{raised};
-ghost use Rattle.powers.specs.Exp2.{Accepts, Exp2, stepsOf, cutOf, exp2Of};
+ghost use Rattle.units.specs.Answers.{Ends, floatBits};
+ghost use Rattle.units.specs.Tests.{Tells};
+ghost use Rattle.powers.specs.Exp2.{Accepts, Exp2};
+ghost use Rattle.powers.specs.Value.{stepsOf, cutOf, exp2Bits};
 ghost use Rattle.powers.specs.Fixed.{FixedExp2};
 
 // One step of Horner's rule, the product of two 32-bit numbers cut off to its upper half.
@@ -72,25 +75,33 @@ pub fn fixed_exp2(x: f32) -> Digits
     }
 }
 
-// 2 to the power x as a float: the digits rounded, and a carry of them into the exponent is the addition.
-fn power(x: f32) -> f32
+// 2 to the power x as a bit pattern: the digits rounded, and a carry of them into the exponent is the addition.
+fn power_bits(x: f32) -> u32
     requires { ⌜ Accepts x ⌝ }
-    ensures { λ r. ⌜ r ≡ exp2Of x ⌝ }
+    ensures { λ r. ⌜ r ≡ exp2Bits x ⌝ }
 {
     let t = fixed_exp2(x);
-    f32::from_bits(t.e * 8388608 + ((t.r + 256) / 512) as u32)
+    t.e * 8388608 + ((t.r + 256) / 512) as u32
+}
+
+// From -126 to 127: of patterns up to 127's, and from -0's to that of -126.
+fn in_range(x: f32) -> bool
+    ensures { λ r. ⌜ Tells (Accepts x) r ⌝ }
+{
+    let b = fixed::bits_of(x);
+    if b < 0x8000_0000 {
+        return b <= 0x42fe_0000;
+    }
+    b <= 0xc2fc_0000
 }
 
 // 2 to the power x; code 1 and nothing written where x is a NaN, below -126 or above 127.
-pub fn exp2(x: f32, out: &mut f32) -> u32
-    ensures { λ code. ⌜ Exp2 x code (now (out .entry)) (now (out .exit)) ⌝ }
+pub fn exp2(x: f32, out: &mut u32) -> u32
+    ensures { λ code. ⌜ Ends floatBits (Exp2 x) code (now (out .entry)) (now (out .exit)) ⌝ }
 {
-    if -126.0 <= x {
-        if x <= 127.0 {
-            *out = power(x);
-            return 0;
-        }
-        return 1;
+    if in_range(x) {
+        *out = power_bits(x);
+        return 0;
     }
     1
 }

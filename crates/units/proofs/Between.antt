@@ -1,56 +1,69 @@
--- A float from -L to H units: the machine's two tests, with the opposite of one float and with another, accept the finite floats between them and no others.
--- Assumes nothing.
-use mathlib.Core.Path.{_≡_, _∙_}
-use mathlib.Core.Logic.{_⊎_, inl, inr}
-use mathlib.Core.Bool.{true, false}
-use Prim.Native.Nat.{ℕ, _+_, _≤_, _<_}
+-- A float from -L to H units by its bit pattern: one test where the sign's bit is clear, another where it is set. Assumes nothing.
+use mathlib.Core.Path.{_≡_}
+use mathlib.Core.Bool.{Bool, true, false, cond}
+use Prim.Native.Nat.{ℕ, _+_, _-_, _*_, _/_, _%_, _^_, _≤_, _<_}
+use native.Mathlib.Nat.{not-le-of-lt}
 use native.Mathlib.Omega.{arith}
-use lib.Dec.{T}
-use lib.Ieee.{Float, binary32, fits, le, neg}
-use Rattle.units.specs.Units.{P, N, Number}
-use Rattle.units.proofs.Order.{le-true, le-false}
-use Rattle.units.proofs.Ranges.{finite-between}
-use Rattle.units.proofs.Signs.{one-sided, plus-of, minus-of}
-use Rattle.units.proofs.Sums.{neg-sides, neg-number}
-use Rattle.units.proofs.Bits.{Is}
+use lib.Dec.{T, leb}
+use borrow.Author.Tests.{leb-true, leb-false}
+use lib.Ieee.{Float, binary32, fits, toBits}
+use lib.Ieee.Bits.{toBits-lt}
+use Rattle.units.specs.Units.{mag, negative, P, N, Number, Between}
+use Rattle.units.specs.Tests.{Tells}
+use Rattle.units.proofs.Patterns.{Shape, packed, packed-of, within, beyond}
 
-module _ (low high x : Float) (L H : ℕ) (l : Is low false L) (h : Is high false H) where
-  bottom-number : Number (neg low)
-  bottom-number = neg-number low (l .number)
-
-  bottom-units : (P (neg low) ≡ 0) × (N (neg low) ≡ L)
-  bottom-units = (neg-sides low .0 ∙ minus-of low (l .sign), neg-sides low .1 ∙ plus-of low (l .sign) ∙ l .units)
-
-  top-units : (P high ≡ H) × (N high ≡ 0)
-  top-units = (plus-of high (h .sign) ∙ h .units, minus-of high (h .sign))
-
-  -- both tests passed
-  pub between : T (fits binary32 x) → le (neg low) x ≡ true → le x high ≡ true → Number x × (N x ≤ L) × (P x ≤ H)
-  between f a b =
-      let n : Number x = record { fits32 = f; is-finite = finite-between (neg low) x high (bottom-number .is-finite) (h .number .is-finite) a b } in (
-        n,
-        at-least (P x) (N x) (P (neg low)) (N (neg low)) (one-sided x) (bottom-units .0) (bottom-units .1) (le-true (neg low) x bottom-number n a),
-        at-most (P x) (N x) (P high) (N high) (one-sided x) (top-units .0) (top-units .1) (le-true x high n (h .number) b),
-      )
+-- a clear sign's bit, and a set one
+module _ (x : Float) (n : Number x) where
+  pub sign-clear : toBits binary32 x < 2147483648 → (P x ≡ mag x) × (N x ≡ 0)
+  sign-clear l = go (negative x) (mag x) (packed-of x n .sign-bit)
     where
-      at-least : (p n P₀ N₀ : ℕ) → (p ≡ 0) ⊎ (n ≡ 0) → P₀ ≡ 0 → N₀ ≡ L → P₀ + n ≤ p + N₀ → n ≤ L
-      at-least p n P₀ N₀ (inl z) e f k = omega arith
-      at-least p n P₀ N₀ (inr z) e f k = omega arith
+      go : (s : Bool) (m : ℕ) → toBits binary32 x / 2147483648 ≡ cond s 1 0 → (cond s 0 m ≡ m) × (cond s m 0 ≡ 0)
+      go true m e = absurd (omega arith)
+      go false m e = (omega arith, omega arith)
 
-      at-most : (p n P₀ N₀ : ℕ) → (p ≡ 0) ⊎ (n ≡ 0) → P₀ ≡ H → N₀ ≡ 0 → p + N₀ ≤ P₀ + n → p ≤ H
-      at-most p n P₀ N₀ (inl z) e f k = omega arith
-      at-most p n P₀ N₀ (inr z) e f k = omega arith
-
-  -- no float between fails the first
-  pub not-below : Number x → N x ≤ L → le (neg low) x ≡ false → ⊥
-  not-below n k e = under (P x) (N x) (P (neg low)) (N (neg low)) (bottom-units .0) (bottom-units .1) k (le-false (neg low) x bottom-number n e)
+  pub sign-set : 2147483648 ≤ toBits binary32 x → (P x ≡ 0) × (N x ≡ mag x)
+  sign-set l = go (negative x) (mag x) (packed-of x n .sign-bit)
     where
-      under : (p n P₀ N₀ : ℕ) → P₀ ≡ 0 → N₀ ≡ L → n ≤ L → p + N₀ < P₀ + n → ⊥
-      under p n P₀ N₀ e f k g = omega arith
+      go : (s : Bool) (m : ℕ) → toBits binary32 x / 2147483648 ≡ cond s 1 0 → (cond s 0 m ≡ 0) × (cond s m 0 ≡ m)
+      go true m e = (omega arith, omega arith)
+      go false m e = absurd (omega arith)
 
-  -- nor the second
-  pub not-above : Number x → P x ≤ H → le x high ≡ false → ⊥
-  not-above n k e = over (P x) (N x) (P high) (N high) (top-units .0) (top-units .1) k (le-false x high n (h .number) e)
+-- -L has the digits l with the exponent i, and H the digits h with the exponent j
+module _ (l i h j : ℕ) (low : Shape l i) (high : Shape h j) (x : Float) (f : T (fits binary32 x)) where
+  abbrev Inside : Type 0
+  Inside = Between (l * 2 ^ i) (h * 2 ^ j) x
+
+  -- the sign's bit is clear
+  pub clear-test : packed h j < 2139095040 → toBits binary32 x < 2147483648 → Tells Inside (leb (toBits binary32 x) (packed h j))
+  clear-test top s = record {
+    if-true = λ e. let (n, m) = within h j high x top f (small (leb-true _ _ e)) in let (p, z) = sign-clear x n s in record { number = n; at-least = none (l * 2 ^ i) z; at-most = rw p m };
+    if-false = λ e r. let (p, z) = sign-clear x (r .number) s in not-le-of-lt (rw (← p) at (beyond h j high x (r .number) (large (leb-false _ _ e)))) (r .at-most);
+  }
     where
-      over : (p n P₀ N₀ : ℕ) → P₀ ≡ H → N₀ ≡ 0 → p ≤ H → P₀ + n < p + N₀ → ⊥
-      over p n P₀ N₀ e f k g = omega arith
+      small : toBits binary32 x ≤ packed h j → toBits binary32 x % 2147483648 ≤ packed h j
+      small e = omega arith
+
+      large : packed h j < toBits binary32 x → packed h j < toBits binary32 x % 2147483648
+      large e = omega arith
+
+      none : {k : ℕ} (b : ℕ) → k ≡ 0 → k ≤ b
+      none b e = omega arith
+
+  -- it is set
+  pub set-test : packed l i < 2139095040 → 2147483648 ≤ toBits binary32 x → Tells Inside (leb (toBits binary32 x) (2147483648 + packed l i))
+  set-test top s = record {
+    if-true = λ e. let (n, m) = within l i low x top f (small (leb-true _ _ e)) in let (z, p) = sign-set x n s in record { number = n; at-least = rw p m; at-most = none (h * 2 ^ j) z };
+    if-false = λ e r. let (z, p) = sign-set x (r .number) s in not-le-of-lt (rw (← p) at (beyond l i low x (r .number) (large (leb-false _ _ e)))) (r .at-least);
+  }
+    where
+      bits : toBits binary32 x < 4294967296
+      bits = toBits-lt binary32 x f
+
+      small : toBits binary32 x ≤ 2147483648 + packed l i → toBits binary32 x % 2147483648 ≤ packed l i
+      small e = omega (arith, bits)
+
+      large : 2147483648 + packed l i < toBits binary32 x → packed l i < toBits binary32 x % 2147483648
+      large e = omega (arith, bits)
+
+      none : {k : ℕ} (b : ℕ) → k ≡ 0 → k ≤ b
+      none b e = omega arith

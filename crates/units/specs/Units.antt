@@ -29,6 +29,12 @@ pub record Number (x : Float) : Type 0 where
   pub fits32 : T (fits binary32 x)
   pub is-finite : T (finite x)
 
+-- x is a finite float from -low to high units
+pub record Between (low high : ℕ) (x : Float) : Type 0 where
+  pub number : Number x
+  pub at-least : N x ≤ low
+  pub at-most : P x ≤ high
+
 -- x is at most y, and below y, as exact numbers
 abbrev pub Le : Float → Float → Type 0
 Le x y = P x + N y ≤ P y + N x

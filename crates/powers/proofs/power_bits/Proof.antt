@@ -1,25 +1,23 @@
--- `powers::power` meets its contract: its pattern is the value function's. Assumes nothing.
+-- `powers::power_bits` meets its contract: its pattern is the value function's. Assumes nothing.
 use borrow.Author.Needs.{needs}
-use mathlib.Core.Path.{_≡_, ap, ap₂}
+use mathlib.Core.Path.{_≡_, ap₂}
 use Prim.Native.Nat.{ℕ, _+_, _*_, _/_, _<_}
 use native.Mathlib.Nat.{le-of-eq, lt-of-le-of-lt}
 use native.Mathlib.Omega.{arith}
-use lib.Ieee.{binary32, ofBits}
-use Rattle.units.proofs.Bits.{no-nan-positive}
-use Rattle.powers.specs.Exp2.{cutOf, digitsOf, exp2Of}
+use Rattle.powers.specs.Value.{cutOf, powerDigits, exp2Bits}
 use Rattle.powers.specs.Fixed.{fixedDigits, fixedExponent}
 use Rattle.powers.proofs.Reduction.{cut-top}
 use Rattle.powers.proofs.Order.{exponentOf, fractionDigits, pattern-in}
-use Rattle.powers.proofs.power.Statement.{statement}
-use Rattle.powers.proofs.power.Tie as tie
+use Rattle.powers.proofs.power_bits.Statement.{statement}
+use Rattle.powers.proofs.power_bits.Tie as tie
 
 fixed-exp2-requires : tie.Need-fixed-exp2-requires
 fixed-exp2-requires c κs = search needs
 
 -- the pattern is that of what x was cut to
 pattern : (c : tie.After-fixed-exp2) → c .fixed-exp2 .result .e * 8388608 + (c .fixed-exp2 .result .r + 256) / 512 ≡ exponentOf (cutOf (c .before .args .x)) * 8388608 + fractionDigits (cutOf (c .before .args .x))
-unfolding fixedDigits fixedExponent digitsOf
-pattern c = ap₂ (λ (e r : ℕ). e * 8388608 + (r + 256) / 512) (c .fixed-exp2 .ensures .exponent) (c .fixed-exp2 .ensures .digits)
+unfolding fixedDigits fixedExponent powerDigits
+pattern c = ap₂ (λ (e r : ℕ). e * 8388608 + (r + 256) / 512) (c .fixed-exp2 .ensures .whole-part) (c .fixed-exp2 .ensures .digits)
 
 in-pattern : (c : tie.After-fixed-exp2) → c .fixed-exp2 .result .e * 8388608 + (c .fixed-exp2 .result .r + 256) / 512 < 255 * 8388608
 in-pattern c = lt-of-le-of-lt (le-of-eq (pattern c)) (pattern-in (cutOf (c .before .args .x)) (cut-top (c .before .args .x) (c .before .pre)))
@@ -36,12 +34,9 @@ cast-result c = omega (arith, in-pattern (c .before .before))
 add-result-2 : tie.Need-add-result-2
 add-result-2 c = omega (arith, in-pattern (c .before .before))
 
-float-from-bits-result : tie.Need-float-from-bits-result
-float-from-bits-result c = no-nan-positive _ (in-pattern (c .before .before))
-
 returns : tie.Need-returns
-unfolding exp2Of
-returns c = ap (λ (n : ℕ). ofBits binary32 n) (pattern (c .before .before))
+unfolding exp2Bits
+returns c = pattern (c .before .before)
 
-pub power-spec : {M : Type 1} → statement M
-power-spec = tie.close (tie.spec fixed-exp2-requires mul-result add-result cast-result add-result-2 float-from-bits-result returns)
+pub power-bits-spec : {M : Type 1} → statement M
+power-bits-spec = tie.close (tie.spec fixed-exp2-requires mul-result add-result cast-result add-result-2 returns)
