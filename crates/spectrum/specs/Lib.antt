@@ -1,3 +1,3 @@
-pub mod Signed
+pub mod Difference
 pub mod Table
 pub mod Words

@@ -4,7 +4,7 @@ use mathlib.Core.Bool.{cond}
 use mathlib.Core.List.{List, [], _∷_}
 use lib.Dec.{leb}
 use lib.ListN.{getD}
-use Rattle.spectrum.specs.Signed.{Signed, whole, opposite}
+use Rattle.spectrum.specs.Difference.{Difference, whole, opposite}
 
 -- the unit of the table, and what is added to every word
 abbrev pub unit : ℕ
@@ -53,18 +53,18 @@ unfoldable pub entry : ℕ → ℕ
 entry j = getD cosines j 0
 
 -- by symmetry the cosine of every j below 128
-unfoldable pub cosineBelow : ℕ → Signed
+unfoldable pub cosineBelow : ℕ → Difference
 cosineBelow j =
     cond (leb j 32) (whole (entry j)) (cond (leb j 64) (opposite (whole (entry (64 - j)))) (cond (leb j 96) (opposite (whole (entry (j - 64)))) (whole (entry (128 - j)))))
 
 -- and the sine
-unfoldable pub sineBelow : ℕ → Signed
+unfoldable pub sineBelow : ℕ → Difference
 sineBelow j =
     cond (leb j 32) (whole (entry (32 - j))) (cond (leb j 64) (whole (entry (j - 32))) (cond (leb j 96) (opposite (whole (entry (96 - j)))) (opposite (whole (entry (j - 96))))))
 
 -- cos (2 pi j / 128) and sin (2 pi j / 128) for every j, in units of 2 ^ -61
-abbrev pub cosine : ℕ → Signed
+abbrev pub cosine : ℕ → Difference
 cosine j = cosineBelow (j % 128)
 
-abbrev pub sine : ℕ → Signed
+abbrev pub sine : ℕ → Difference
 sine j = sineBelow (j % 128)

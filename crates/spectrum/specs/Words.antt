@@ -2,11 +2,11 @@
 use mathlib.Core.Path.{_≡_}
 use mathlib.Core.List.{List, [], _∷_}
 use Prim.Native.Nat.{ℕ, zero, suc, _+_, _-_, _*_, _/_, _%_, _^_, _≤_, _<_}
-use Rattle.spectrum.specs.Signed.{Signed}
+use Rattle.spectrum.specs.Difference.{Difference}
 use Rattle.spectrum.specs.Table.{unit, entry}
 
 -- the value of a word
-abbrev pub valueOf : ℕ → Signed
+abbrev pub valueOf : ℕ → Difference
 valueOf v = record { plus = v - unit; minus = unit - v }
 
 -- a word whose value is small enough for a butterfly: no sum in it passes 2 ^ 64, and none below zero
