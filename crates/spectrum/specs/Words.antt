@@ -2,6 +2,7 @@
 use mathlib.Core.Path.{_≡_}
 use mathlib.Core.List.{List, [], _∷_}
 use Prim.Native.Nat.{ℕ, zero, suc, _+_, _-_, _*_, _/_, _%_, _^_, _≤_, _<_}
+use lib.ListN.{length, getD}
 use Rattle.spectrum.specs.Difference.{Difference}
 use Rattle.spectrum.specs.Table.{unit, entry}
 
@@ -43,6 +44,23 @@ pub record Combined (g st : ℕ) (f o r : ℕ → ℕ) : Type 0 where
   pub same : r g ≡ f g
   pub turned : r (3 * g) + o g ≡ 2 * unit
 
+-- one butterfly among them, in place: the words at k, 2 g - k, 2 g + k and 4 g - k
+pub record Winged (g st k : ℕ) (f r : ℕ → ℕ) : Type 0 where
+  pub wings : Butterfly (k * st) (f k) (f (2 * g - k)) (f (2 * g + k)) (f (4 * g - k)) (r k) (r (2 * g - k)) (r (2 * g + k)) (r (4 * g - k))
+  pub others : (i : ℕ) → ¬ (i ≡ k) → ¬ (i ≡ 2 * g - k) → ¬ (i ≡ 2 * g + k) → ¬ (i ≡ 4 * g - k) → r i ≡ f i
+
+-- and the words that take no turn, at 0, 2 g and 3 g
+pub record Straight (g : ℕ) (f r : ℕ → ℕ) : Type 0 where
+  pub first : r 0 + unit ≡ f 0 + f (2 * g)
+  pub middle : r (2 * g) + f (2 * g) ≡ f 0 + unit
+  pub turned : r (3 * g) + f (3 * g) ≡ 2 * unit
+  pub others : (i : ℕ) → ¬ (i ≡ 0) → ¬ (i ≡ 2 * g) → ¬ (i ≡ 3 * g) → r i ≡ f i
+
+-- a word whose value is at most 2 ^ 53, as an input is
+pub record Small (v : ℕ) : Type 0 where
+  pub least : unit ≤ v + 2 ^ 53
+  pub most : v ≤ unit + 2 ^ 53
+
 -- the block of four values a, b, c, d
 pub record Four (a b c d : ℕ) (r : ℕ → ℕ) : Type 0 where
   pub first : r 0 + 3 * unit ≡ a + b + c + d
@@ -54,3 +72,16 @@ pub record Four (a b c d : ℕ) (r : ℕ → ℕ) : Type 0 where
 pub data Filled (y : ℕ → ℕ) : ℕ → ℕ → ℕ → ℕ → (ℕ → ℕ) → Type 0 where
   four : {off st : ℕ} {r : ℕ → ℕ} → Four (y off) (y (off + st)) (y (off + 2 * st)) (y (off + 3 * st)) r → Filled y 0 1 off st r
   halves : {s g off st : ℕ} {f o r : ℕ → ℕ} → Filled y s g off (2 * st) f → Filled y s g (off + st) (2 * st) o → Combined (2 * g) st f o r → Filled y (suc s) (2 * g) off st r
+
+-- what is filled: 4 g words, g = 2 ^ s, from 128 small ones, st apart, g st = 32
+pub record Fillable (y : List ℕ) (off st n : ℕ) : Type 0 where
+  pub s : ℕ
+  pub size : n ≡ 4 * 2 ^ s
+  pub apart : 2 ^ s * st ≡ 32
+  pub start : off < st
+  pub as-many : length y ≡ 128
+  pub small : (i : ℕ) → i < 128 → Small (getD y i 0)
+
+-- and with what
+abbrev pub FilledWith : List ℕ → ℕ → ℕ → List ℕ → Type 0
+FilledWith y off st r = (s g : ℕ) → g ≡ 2 ^ s → length r ≡ 4 * g → Filled (λ i. getD y i 0) s g off st (λ i. getD r i 0)

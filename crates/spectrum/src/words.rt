@@ -2,9 +2,9 @@
 // at k, k from 0 to n / 2, and the imaginary part k at n - k, k from 1 to n / 2 - 1.
 
 ghost use mathlib.Core.Path.{_≡_};
-ghost use Prim.Native.Nat.{ℕ, _+_, _*_, _<_, _≤_, _^_};
+ghost use Prim.Native.Nat.{ℕ, _+_, _-_, _*_, _<_, _≤_, _^_};
 ghost use lib.ListN.{length, getD};
-ghost use Rattle.spectrum.specs.Words.{part, Inside, Butterfly, Combined};
+ghost use Rattle.spectrum.specs.Words.{part, Inside, Butterfly, Winged, Straight, Combined, Fillable, FilledWith};
 
 const UNIT: u64 = 0x2000_0000_0000_0000;
 
@@ -43,4 +43,70 @@ fn butterfly(j: usize, er: u64, ei: u64, or: u64, oi: u64) -> Wings
         e: u - ei,
         d: ei + u - TWICE,
     }
+}
+
+// One butterfly in a block of 4 g words.
+fn wing(r: &mut [u64], g: usize, st: usize, k: usize)
+    requires { ⌜ (1 ≤ k) × (k < g) × (g * st ≡ 32) × (length (now r) ≡ 4 * g) × Inside (getD (now r) k 0) × Inside (getD (now r) (2 * g - k) 0) × Inside (getD (now r) (2 * g + k) 0) × Inside (getD (now r) (4 * g - k) 0) ⌝ }
+    ensures { λ _. ⌜ Winged g st k (λ i. getD (now (r .entry)) i 0) (λ i. getD (now (r .exit)) i 0) ⌝ }
+{
+    let b = 2 * g - k;
+    let e = 2 * g + k;
+    let d = 4 * g - k;
+    let w = butterfly(k * st, r[k], r[b], r[e], r[d]);
+    r[k] = w.a;
+    r[b] = w.b;
+    r[e] = w.e;
+    r[d] = w.d;
+}
+
+// The words that take no turn.
+fn straight(r: &mut [u64], g: usize)
+    requires { ⌜ (1 ≤ g) × (length (now r) ≡ 4 * g) × ((i : ℕ) → i < 4 * g → Inside (getD (now r) i 0)) ⌝ }
+    ensures { λ _. ⌜ Straight g (λ i. getD (now (r .entry)) i 0) (λ i. getD (now (r .exit)) i 0) ⌝ }
+{
+    let h = 2 * g;
+    let q = 3 * g;
+    let e = r[0];
+    let o = r[h];
+    let v = r[q];
+    r[0] = e + o - UNIT;
+    r[h] = e + UNIT - o;
+    r[q] = TWICE - v;
+}
+
+// Two blocks of 2 g words, one after the other, become one of 4 g.
+fn combine(r: &mut [u64], g: usize, st: usize)
+    requires { ⌜ (1 ≤ g) × (g * st ≡ 32) × (length (now r) ≡ 4 * g) × ((i : ℕ) → i < 4 * g → Inside (getD (now r) i 0)) ⌝ }
+    ensures { λ _. ⌜ Combined g st (λ i. getD (now (r .entry)) i 0) (λ i. getD (now (r .entry)) (2 * g + i) 0) (λ i. getD (now (r .exit)) i 0) ⌝ }
+{
+    straight(r, g);
+    let mut k = 1;
+    while k < g {
+        wing(r, g, st, k);
+        k += 1;
+    }
+}
+
+// The words of y at off, off + st, off + 2 st, .. become the block r.
+pub fn fill(y: &[u64], off: usize, st: usize, r: &mut [u64])
+    requires { ⌜ Fillable (now y) off st (length (now r)) ⌝ }
+    ensures { λ _. ⌜ FilledWith (now (y .entry)) off st (now (r .exit)) ⌝ }
+{
+    let n = r.len();
+    if n == 4 {
+        let a = y[off];
+        let b = y[off + st];
+        let c = y[off + 2 * st];
+        let d = y[off + 3 * st];
+        r[0] = a + b + c + d - 3 * UNIT;
+        r[1] = a + UNIT - c;
+        r[2] = a + c + UNIT - (b + d);
+        r[3] = d + UNIT - b;
+        return;
+    }
+    let h = n / 2;
+    fill(y, off, 2 * st, &mut r[..h]);
+    fill(y, off + st, 2 * st, &mut r[h..]);
+    combine(r, h / 2, st);
 }

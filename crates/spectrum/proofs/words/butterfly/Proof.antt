@@ -74,14 +74,17 @@ part-requires-4 c κs = search needs
 sub-u : tie.Need-sub-u
 sub-u c =
     let r = c .before .before .before .before .before .before in
-    omega (arith, numbers r .other,
-      taken-away (entry (r .before .args .j)) (entry (32 - r .before .args .j)) (r .before .args .or) (r .before .args .oi) (cosine-most r) (sine-most r) (r .before .pre .4) (r .before .pre .5) _ _ (third (c .before .before)) (last c))
+    omega (
+      arith,
+      numbers r .other,
+      taken-away (entry (r .before .args .j)) (entry (32 - r .before .args .j)) (r .before .args .or) (r .before .args .oi) (cosine-most r) (sine-most r) (r .before .pre .4) (r .before .pre .5) _ _ (third (c .before .before)) (last c),
+    )
 
 imaginary : (c : tie.After-part4) → Twice (c .before .before .part3 .result + c .before .before .before .before .before .before .row .result .y - c .part4 .result)
 imaginary c =
     let r = c .before .before .before .before .before .before in
     imaginary-room (entry (r .before .args .j)) (entry (32 - r .before .args .j)) (r .before .args .or) (r .before .args .oi) (cosine-most r) (sine-most r) (r .before .pre .4) (r .before .pre .5) _ _ _ (third (c .before .before)) (last c)
-        (sums _ _ _ _ _ (sub-u c) (numbers r .other))
+    (sums _ _ _ _ _ (sub-u c) (numbers r .other))
   where
     sums : (p q y a b : ℕ) → q ≤ p + y → y + a ≡ b → p + y - q + (q + a) ≡ p + b
     sums p q y a b l e = omega arith
@@ -127,7 +130,7 @@ returns c =
     let r = c .before .before .before .before .before .before in
     let n = numbers r in
     wings (r .before .args .j) (r .before .args .er) (r .before .args .ei) (r .before .args .or) (r .before .args .oi) _ _ _ _ _ _ _ _ (n .cosine) (n .sine) (c .before .before .before .before .before .part .ensures) (c .before .before .before .before .part2 .ensures) (c .before .before .part3 .ensures) (c .part4 .ensures)
-        (n .both) (n .other) (sub-t10 c) (sub-t12 c) (sub-u c) (sub-t13 c) (sub-t15 c)
+    (n .both) (n .other) (sub-t10 c) (sub-t12 c) (sub-u c) (sub-t13 c) (sub-t15 c)
 
 pub butterfly-spec : {M : Type 1} → statement M
 butterfly-spec =
