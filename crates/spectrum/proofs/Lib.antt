@@ -4,3 +4,6 @@ pub mod Entries
 pub mod Room
 pub mod Stores
 pub mod Combining
+pub mod Differences
+pub mod Turning
+pub mod Halving

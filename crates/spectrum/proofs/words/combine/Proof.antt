@@ -68,7 +68,7 @@ returns c =
     let s = a .before .before .before .before .before .before in
     let g = s .args .g in
     finish g (s .args .st) (λ i. getD (s .args .r .now) i 0) (λ i. getD (a .before .before .before .straight .last .0) i 0) (λ i. getD (a .loop .r) i 0) (s .pre .0) (a .before .before .before .straight .ensures)
-        (subst (λ (n : ℕ). Going g (s .args .st) n (λ i. getD (a .before .before .before .straight .last .0) i 0) (λ i. getD (a .loop .r) i 0)) (le-antisymm (a .loop .inv .1) (c .loop-test .left)) (a .loop .inv .3))
+    (subst (λ (n : ℕ). Going g (s .args .st) n (λ i. getD (a .before .before .before .straight .last .0) i 0) (λ i. getD (a .loop .r) i 0)) (le-antisymm (a .loop .inv .1) (c .loop-test .left)) (a .loop .inv .3))
 
 pub combine-spec : {M : Type 1} → statement M
 combine-spec =

@@ -68,7 +68,7 @@ same-length : tie.Need-same-length
 same-length c = search needs
 
 returns : tie.Need-returns
-returns c = 
+returns c =
     straight (c .before .before .before .args .r .now) (c .before .before .before .args .g) (c .before .before .before .pre .0) (c .before .before .before .pre .1) _ _ _ (omega (arith, sub-r c)) (omega (arith, sub-r-2 c)) (omega (arith, sub-r-3 c))
 
 pub straight-spec : {M : Type 1} → statement M
