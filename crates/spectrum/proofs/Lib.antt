@@ -7,3 +7,5 @@ pub mod Combining
 pub mod Differences
 pub mod Turning
 pub mod Halving
+pub mod Rotated
+pub mod Stage
