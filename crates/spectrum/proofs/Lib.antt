@@ -9,3 +9,4 @@ pub mod Turning
 pub mod Halving
 pub mod Rotated
 pub mod Stage
+pub mod Filling

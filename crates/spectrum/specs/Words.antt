@@ -84,4 +84,4 @@ pub record Fillable (y : List ℕ) (off st n : ℕ) : Type 0 where
 
 -- and with what
 abbrev pub FilledWith : List ℕ → ℕ → ℕ → List ℕ → Type 0
-FilledWith y off st r = (s g : ℕ) → g ≡ 2 ^ s → length r ≡ 4 * g → Filled (λ i. getD y i 0) s g off st (λ i. getD r i 0)
+FilledWith y off st r = (s g : ℕ) → g ≡ 2 ^ s → length r ≡ 4 * g → Filled (λ i. getD y i unit) s g off st (λ i. getD r i 0)
