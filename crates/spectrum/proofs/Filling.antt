@@ -107,7 +107,7 @@ module _ (y : ℕ → ℕ) (small : (i : ℕ) → length (valueOf (y i)) ≤ 2 ^
       same st e = omega arith
   filled (halves {s} {g} {off} {st} {f} {o} {r} a b c) e =
       stage y small off st (2 * g) (loss s) ((5 * loss s + 15) / 2) (some g st e) e (omega arith) f o r (subst (λ (n : ℕ). Transformed y (loss s) n off (2 * st) f) (four-of g) (filled a (inner g st e)))
-          (subst (λ (n : ℕ). Transformed y (loss s) n (off + st) (2 * st) o) (four-of g) (filled b (inner g st e))) c
+      (subst (λ (n : ℕ). Transformed y (loss s) n (off + st) (2 * st) o) (four-of g) (filled b (inner g st e))) c
     where
       some : (g st : ℕ) → 2 * g * st ≡ 32 → 1 ≤ 2 * g
       some zero st e = absurd (omega arith)

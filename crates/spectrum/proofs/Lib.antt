@@ -10,3 +10,4 @@ pub mod Halving
 pub mod Rotated
 pub mod Stage
 pub mod Filling
+pub mod Blocks

@@ -88,3 +88,26 @@ module _ (l : List ℕ) (g st k : ℕ) (low : 1 ≤ k) (high : k < g) (as-many :
       };
       others = λ i n n₂ n₃ n₄. past (w₃ a b e) (4 * g - k) i d n₄ ∙ past (w₂ a b) (2 * g + k) i e n₃ ∙ past (w₁ a) (2 * g - k) i b n₂ ∙ past l k i a n;
     }
+
+-- four stores in a row
+module _ (l : List ℕ) (as-many : length l ≡ 4) (a b e d : ℕ) where
+  abbrev s₁ : List ℕ
+  s₁ = set l 0 a
+
+  abbrev s₂ : List ℕ
+  s₂ = set s₁ 1 b
+
+  abbrev s₃ : List ℕ
+  s₃ = set s₂ 2 e
+
+  pub stored-0 : getD (set s₃ 3 d) 0 0 ≡ a
+  stored-0 = past s₃ 3 0 d (λ h. omega arith) ∙ past s₂ 2 0 e (λ h. omega arith) ∙ past s₁ 1 0 b (λ h. omega arith) ∙ here l 0 a (omega arith)
+
+  pub stored-1 : getD (set s₃ 3 d) 1 0 ≡ b
+  stored-1 = past s₃ 3 1 d (λ h. omega arith) ∙ past s₂ 2 1 e (λ h. omega arith) ∙ here s₁ 1 b (lt-length-set l 0 a (omega arith))
+
+  pub stored-2 : getD (set s₃ 3 d) 2 0 ≡ e
+  stored-2 = past s₃ 3 2 d (λ h. omega arith) ∙ here s₂ 2 e (lt-length-set s₁ 1 b (lt-length-set l 0 a (omega arith)))
+
+  pub stored-3 : getD (set s₃ 3 d) 3 0 ≡ d
+  stored-3 = here s₃ 3 d (lt-length-set s₂ 2 e (lt-length-set s₁ 1 b (lt-length-set l 0 a (omega arith))))

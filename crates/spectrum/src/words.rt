@@ -4,11 +4,13 @@
 ghost use mathlib.Core.Path.{_≡_};
 ghost use Prim.Native.Nat.{ℕ, _+_, _-_, _*_, _<_, _≤_, _^_};
 ghost use lib.ListN.{length, getD};
-ghost use Rattle.spectrum.specs.Words.{part, Inside, Butterfly, Winged, Straight, Combined, Fillable, FilledWith};
+ghost use Rattle.spectrum.specs.Words.{part, Inside, Butterfly, Small, Winged, Straight, Combined, Four, Fillable, FilledWith};
 
 const UNIT: u64 = 0x2000_0000_0000_0000;
 
 const TWICE: u64 = 0x4000_0000_0000_0000;
+
+const THRICE: u64 = 0x6000_0000_0000_0000;
 
 // v w / 2^64, less than 3 below it: the product of the lower halves is left out.
 fn part(v: u64, w: u64) -> u64
@@ -88,6 +90,31 @@ fn combine(r: &mut [u64], g: usize, st: usize)
     }
 }
 
+// The transform of four values.
+fn of_four(a: u64, b: u64, c: u64, d: u64) -> Wings
+    requires { ⌜ Small a × Small b × Small c × Small d ⌝ }
+    ensures { λ w. ⌜ (w .a + 3 * 2 ^ 61 ≡ a + b + c + d) × (w .b + c ≡ a + 2 ^ 61) × (w .e + (b + d) ≡ a + c + 2 ^ 61) × (w .d + b ≡ d + 2 ^ 61) ⌝ }
+{
+    Wings {
+        a: a + b + c + d - THRICE,
+        b: a + UNIT - c,
+        e: a + c + UNIT - (b + d),
+        d: d + UNIT - b,
+    }
+}
+
+// The block of the four words of y at off, off + 32, off + 64 and off + 96.
+fn leaf(y: &[u64], off: usize, r: &mut [u64])
+    requires { ⌜ (off < 32) × (length (now y) ≡ 128) × (length (now r) ≡ 4) × ((i : ℕ) → i < 128 → Small (getD (now y) i 0)) ⌝ }
+    ensures { λ _. ⌜ Four (getD (now (y .entry)) off 0) (getD (now (y .entry)) (off + 32) 0) (getD (now (y .entry)) (off + 64) 0) (getD (now (y .entry)) (off + 96) 0) (λ i. getD (now (r .exit)) i 0) ⌝ }
+{
+    let w = of_four(y[off], y[off + 32], y[off + 64], y[off + 96]);
+    r[0] = w.a;
+    r[1] = w.b;
+    r[2] = w.e;
+    r[3] = w.d;
+}
+
 // The words of y at off, off + st, off + 2 st, .. become the block r.
 pub fn fill(y: &[u64], off: usize, st: usize, r: &mut [u64])
     requires { ⌜ Fillable (now y) off st (length (now r)) ⌝ }
@@ -95,14 +122,7 @@ pub fn fill(y: &[u64], off: usize, st: usize, r: &mut [u64])
 {
     let n = r.len();
     if n == 4 {
-        let a = y[off];
-        let b = y[off + st];
-        let c = y[off + 2 * st];
-        let d = y[off + 3 * st];
-        r[0] = a + b + c + d - 3 * UNIT;
-        r[1] = a + UNIT - c;
-        r[2] = a + c + UNIT - (b + d);
-        r[3] = d + UNIT - b;
+        leaf(y, off, r);
         return;
     }
     let h = n / 2;
