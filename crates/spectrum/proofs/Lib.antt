@@ -11,3 +11,5 @@ pub mod Rotated
 pub mod Stage
 pub mod Filling
 pub mod Blocks
+pub mod Sizes
+pub mod Outputs
