@@ -12,4 +12,5 @@ pub mod Stage
 pub mod Filling
 pub mod Blocks
 pub mod Sizes
+pub mod Loads
 pub mod Outputs

@@ -51,7 +51,7 @@ fn scaled(b: u32, e: u32) -> u64
 
 // Its digits m at the place k, shifted to their place among the units.
 fn shifted(m: u32, k: u32, e: u32) -> u64
-    requires { ⌜ (m < 2 ^ 24) × (k ≤ 255) × (m * 2 ^ k < 2 ^ e) × (e ≤ 269) ⌝ }
+    requires { ⌜ (m < 2 ^ 24) × (k ≤ e) × (m * 2 ^ k < 2 ^ e) × (e ≤ 269) ⌝ }
     ensures { λ r. ⌜ r ≡ m * 2 ^ k * 2 ^ 53 / 2 ^ e ⌝ }
 {
     let p = k + 53;

@@ -13,7 +13,7 @@ cast-result : tie.Need-cast-result
 cast-result c = search needs
 
 shl-result : tie.Need-shl-result
-shl-result c = ?
+shl-result c = omega arith
 
 returns : tie.Need-returns
 returns c = let s = c .before in shifted-left (s .args .m) (s .args .k) (s .args .e) (s .pre .0) (s .pre .2) (c .if1 .taken)
