@@ -14,3 +14,4 @@ pub mod Blocks
 pub mod Sizes
 pub mod Loads
 pub mod Outputs
+pub mod Cosines
