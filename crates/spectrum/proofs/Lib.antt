@@ -15,3 +15,5 @@ pub mod Sizes
 pub mod Loads
 pub mod Outputs
 pub mod Cosines
+pub mod Exact
+pub mod Written

@@ -77,7 +77,7 @@ low-scale m h = elim (eq-zero-or-pos m) [ inl z ↦ none z | inr p ↦ some p ]
     alone = ap₂ (λ d k. d * 2 ^ k) (low-digits m h) (low-place m h) ∙ mul-one m
 
     none : m ≡ 0 → Scale m (32 - leadingZeros 32 m)
-    none z = rw (z, leading-of-zero 32) (record { above = rw (z) at (lt-of-le-of-lt (le-of-eq alone) (nought z)); below = λ n. absurd (n refl); high = omega arith })
+    none z = rw (z, leading-of-zero 32) (record { above = rw (z) at (lt-of-le-of-lt (le-of-eq alone) (nought z)); below = λ n. absurd (n refl); none = λ z. refl; high = omega arith })
       where
         nought : m ≡ 0 → m < 1
         nought z = omega arith
@@ -86,7 +86,7 @@ low-scale m h = elim (eq-zero-or-pos m) [ inl z ↦ none z | inr p ↦ some p ]
     some p =
         let (j, e, l, u) = leading-top 32 m p (omega arith) in
         let f : 32 - leadingZeros 32 m ≡ suc j = omega arith in
-        rw f (record { above = rw alone u; below = λ n. rw alone (le-trans (le-of-eq (pow-suc 2 j)) (twice (2 ^ j) l)); high = omega arith })
+        rw f (record { above = rw alone u; below = λ n. rw alone (le-trans (le-of-eq (pow-suc 2 j)) (twice (2 ^ j) l)); none = λ z. absurd (omega arith); high = omega arith })
       where
         twice : (x : ℕ) → x ≤ m → x * 2 ≤ 2 * m
         twice x l = omega arith
@@ -96,6 +96,7 @@ unfolding placeIn
 high-scale m l h = record {
   above = rw (high-digits m l) (lt-of-lt-of-le (mul-lt-mul-of-pos-right most (pow-pos (m / 8388608 - 1))) (le-of-eq (sym (pow-add 2 24 (m / 8388608 - 1)) ∙ ap (λ (n : ℕ). 2 ^ n) up)));
   below = λ n. rw (high-digits m l) (le-trans (le-of-eq (ap (λ (n : ℕ). 2 ^ n) (sym up) ∙ pow-add 2 24 (m / 8388608 - 1))) (twice (2 ^ (m / 8388608 - 1))));
+  none = λ z. absurd (omega arith);
   high = omega arith;
 }
   where
@@ -135,3 +136,16 @@ module _ (m k e : ℕ) (few : m < 2 ^ 24) where
 
   pub shifted-out : k + 53 + 64 ≤ e → 0 ≡ m * 2 ^ k * 2 ^ 53 / 2 ^ e
   shifted-out l = sym (div-eq-of-lt (lt-of-le-of-lt (le-of-eq raised) (lt-of-lt-of-le (mul-lt-mul-of-pos-right few (pow-pos (k + 53))) (le-trans (le-of-eq (sym (pow-add 2 24 (k + 53)))) (pow-mono {i = 24 + (k + 53)} {j = e} (omega arith))))))
+
+-- no digits, no pattern
+pub size-zero : (b : ℕ) → sizeIn b ≡ 0 → b ≡ 0
+size-zero b h = elim (le-or-lt 8388608 b) [ inl l ↦ absurd (some (digitsIn b) (2 ^ placeIn b) (rw (high-digits b l) (least l)) (pow-pos (placeIn b)) h) | inr l ↦ sym (low-digits b l) ∙ none (digitsIn b) (2 ^ placeIn b) (pow-pos (placeIn b)) h ]
+  where
+    least : 8388608 ≤ b → 1 ≤ b % 8388608 + 8388608
+    least l = omega arith
+
+    some : (d p : ℕ) → 1 ≤ d → 0 < p → d * p ≡ 0 → ⊥
+    some d p l k h = omega (arith, mul-le-mul-right p l)
+
+    none : (d p : ℕ) → 0 < p → d * p ≡ 0 → d ≡ 0
+    none d p k h = elim (eq-zero-or-pos d) [ inl z ↦ z | inr l ↦ absurd (some d p l k h) ]

@@ -35,6 +35,7 @@ pub record Largest (xs : List Float) (n m : ℕ) : Type 0 where
 pub record Scale (m e : ℕ) : Type 0 where
   pub above : sizeIn m < 2 ^ e
   pub below : ¬ (m ≡ 0) → 2 ^ e ≤ 2 * sizeIn m
+  pub none : m ≡ 0 → e ≡ 0
   pub high : e ≤ 269
 
 -- a float in units of 2 ^ (e - 53) least floats, cut off, as a word
