@@ -17,3 +17,5 @@ pub mod Outputs
 pub mod Cosines
 pub mod Exact
 pub mod Written
+pub mod Frame
+pub mod Promise
