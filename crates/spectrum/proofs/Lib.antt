@@ -15,6 +15,7 @@ pub mod Sizes
 pub mod Loads
 pub mod Outputs
 pub mod Cosines
+pub mod Inverse
 pub mod Exact
 pub mod Written
 pub mod Frame
