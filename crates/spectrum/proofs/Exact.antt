@@ -111,7 +111,7 @@ module _ (xs : List Float) (ys : List ℕ) (e : ℕ) (small : (n : ℕ) → n < 
 
   -- the table against cosines or sines
   module _ (u l : ℕ) (covers : Covers l xs) (w : ℕ → Difference) (t : ℕ → Difference) (near : (j : ℕ) → j < 128 → Close (8 * u) (times (whole u) (w j)) (times (whole unit) (t j))) where
-    table-near : (k : ℕ) → Close (128 * (l * (8 * u))) (times (whole u) (total (λ n. times (unitsOf (at xs n)) (w (k * n % 128))) 128)) (times (whole unit) (turnedSum xs t k))
+    pub table-near : (k : ℕ) → Close (128 * (l * (8 * u))) (times (whole u) (total (λ n. times (unitsOf (at xs n)) (w (k * n % 128))) 128)) (times (whole unit) (turnedSum xs t k))
     unfolding turnedSum
     table-near k =
         close-weaken (omega arith)

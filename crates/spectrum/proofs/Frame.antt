@@ -4,24 +4,24 @@ use mathlib.Core.Logic.{inl, inr, _⊎_}
 use mathlib.Core.Bool.{Bool, true, false, cond}
 use mathlib.Core.List.{List}
 use Prim.Native.Nat.{ℕ, zero, suc, _+_, _-_, _*_, _/_, _%_, _^_, _≤_, _<_, zero-le}
-use native.Mathlib.Nat.{le-trans, le-of-eq, lt-of-le-of-lt, lt-of-lt-of-le, eq-zero-or-pos, mul-assoc, mul-comm, mul-le-mul, mul-le-mul-left, mul-le-mul-right, le-of-mul-le-mul-left, le-of-mul-le-mul-right, lt-of-mul-lt-mul-right, div-mul-le-self, zero-div}
+use native.Mathlib.Nat.{le-trans, le-of-eq, lt-of-le-of-lt, lt-of-lt-of-le, eq-zero-or-pos, mul-assoc, mul-comm, mul-le-mul, mul-le-mul-left, mul-le-mul-right, le-of-mul-le-mul-left, le-of-mul-le-mul-right, lt-of-mul-lt-mul-right, div-mul-le-self, zero-div, mul-one, mul-zero, zero-add}
 use native.Mathlib.Omega.{arith}
 use lib.Pow.{pow-add, pow-pos, pow-mono}
 use lib.ListN.{length, getD, List·getD-eq-default}
 use lib.Dec.{T, lit<}
-use lib.Ieee.{Float, binary32, fits, ofBits}
+use lib.Ieee.{Float, nan, binary32, fits, ofBits}
 use Rattle.units.specs.Units.{mag, negative, P, N, Number}
 use Rattle.units.proofs.Naturals.{le-or-lt}
 use Rattle.units.proofs.Size.{mag-digits}
 use Rattle.units.proofs.Signs.{size-sum, one-sided as one-sided′}
 use Rattle.units.proofs.Patterns.{finite-below}
-use Rattle.spectrum.specs.Difference.{Difference, whole, opposite, times, total, apart}
-use Rattle.spectrum.specs.Table.{unit, cosine, sine}
+use Rattle.spectrum.specs.Difference.{Difference, whole, opposite, times, total, apart, size}
+use Rattle.spectrum.specs.Table.{unit, cosineBelow, sineBelow, cosine, sine}
 use Rattle.spectrum.specs.Words.{valueOf, Small, Fillable, FilledWith}
 use Rattle.spectrum.specs.Transform.{at, Element, Elements, unitsOf, turnedSum, Turns, Covers, NearOutput, exactRe, exactIm}
 use Rattle.spectrum.specs.Floats.{digitsIn, placeIn, sizeIn, sizeBits, Largest, Scale, wordOf, Loaded, Holdable, bitsOf, StoredReal, StoredImaginary}
 use Rattle.spectrum.proofs.Differences as D
-use Rattle.spectrum.proofs.Differences.{Close, total-length}
+use Rattle.spectrum.proofs.Differences.{Close, total-same, total-length}
 use Rattle.spectrum.proofs.Halving.{plain}
 use Rattle.spectrum.proofs.Rotated.{unflipped}
 use Rattle.spectrum.proofs.Stage.{Transformed}
@@ -29,7 +29,9 @@ use Rattle.spectrum.proofs.Filling.{loss, filled, sizes}
 use Rattle.spectrum.proofs.Blocks.{within}
 use Rattle.spectrum.proofs.Sizes.{size-of, size-mono}
 use Rattle.spectrum.proofs.Loads.{quotient-small}
-use Rattle.spectrum.proofs.Exact.{real-sum, imaginary-sum, end-sum, near-output}
+use Rattle.spectrum.proofs.Cosines.{table-cosine, table-sine}
+use Rattle.spectrum.proofs.Exact.{real-sum, imaginary-sum, table-near, end-sum, near-output}
+use Rattle.spectrum.proofs.Energy.{largest-by}
 use Rattle.spectrum.proofs.Written.{Output, output, one-sided, zero-output}
 
 -- ---- elements by their patterns
@@ -259,3 +261,44 @@ module _ (xs : List Float) (m e : ℕ) (elements : (n : ℕ) → n < 128 → Ele
         where
           flip : (d : Difference) → D.length d ≤ 0 → D.length (opposite d) ≤ 0
           flip d h = omega arith
+
+    -- ---- the largest value by the outputs
+    abbrev M : ℕ
+    M = sizeIn m
+
+    pub covered : Covers M xs
+    covered n l = le-trans (le-of-eq (size-of (at xs n) (elements n l .number))) (size-mono _ m (largest .most n l))
+
+    module _ (few : length xs ≡ 128) (c s : ℕ → Difference) (u : ℕ) (turns : Turns c s u) where
+      all-covered : (i : ℕ) → D.length (unitsOf (at xs i)) ≤ M
+      unfolding mag negative
+      all-covered i = elim (le-or-lt 128 i) [
+        | inl l ↦ subst (λ (x : Float). D.length (unitsOf x) ≤ M) (sym (List·getD-eq-default xs nan (omega arith))) zero-le
+        | inr l ↦ le-trans (le-of-eq (size-sum (at xs i))) (covered i l)
+      ]
+
+      plainly : (w : ℕ → Difference) (k : ℕ) → plain (λ i. unitsOf (at xs i)) w 0 1 k 128 ≡ total (λ n. times (unitsOf (at xs n)) (w (k * n))) 128
+      plainly w k = total-same _ _ 128 (λ n. ap (λ (j : ℕ). times (unitsOf (at xs (0 + j))) (w (k * j))) (mul-one n) ∙ ap (λ (j : ℕ). times (unitsOf (at xs j)) (w (k * n))) (zero-add n))
+
+      pub largest-output : (q : ℕ) → ((k : ℕ) → k ≤ 64 → size (exactRe xs c k) ≤ q) → ((k : ℕ) → k ≤ 64 → size (exactIm xs s k) ≤ q) → u * M ≤ 256 * q
+      largest-output q sr si = elim (eq-zero-or-pos m) [ inl z ↦ quiet z | inr p ↦ loud (λ z. above p z) ]
+        where
+          above : 0 < m → m ≡ 0 → ⊥
+          above p z = omega arith
+
+          quiet : m ≡ 0 → u * sizeIn m ≤ 256 * q
+          quiet z = rw (z, zero-size, mul-zero u) zero-le
+
+          loud : ¬ (m ≡ 0) → u * M ≤ 256 * q
+          loud some =
+              let (i, b, e) = largest .there some in
+              largest-by (λ i. unitsOf (at xs i)) (turnedSum xs c) (turnedSum xs s) u M i b all-covered (size-sum (at xs i) ∙ size-of (at xs i) (elements i b .number) ∙ ap sizeIn e) (one-sided′ (at xs i))
+              (λ k l. subst (λ (d : Difference). Close (128 * (M * (8 * u))) (times (whole u) d) (times (whole unit) (turnedSum xs c k))) (sym (plainly cosine k)) (table-near xs ys e′ size-below word u M covered cosineBelow c (table-cosine c s u turns) k))
+              (λ k l. subst (λ (d : Difference). Close (128 * (M * (8 * u))) (times (whole u) d) (times (whole unit) (turnedSum xs s k))) (sym (plainly sine k)) (table-near xs ys e′ size-below word u M covered sineBelow s (table-sine c s u turns) k))
+              q sr (λ k l. le-trans (le-of-eq (turned-size (turnedSum xs s k))) (si k l))
+            where
+              e′ : ℕ
+              e′ = e
+
+              turned-size : (d : Difference) → size d ≡ size (opposite d)
+              turned-size d = omega arith

@@ -18,5 +18,6 @@ pub mod Cosines
 pub mod Inverse
 pub mod Exact
 pub mod Written
+pub mod Energy
 pub mod Frame
 pub mod Promise

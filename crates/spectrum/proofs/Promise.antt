@@ -10,12 +10,13 @@ use lib.Ieee.{Float, nan, binary32, ofBits, toBits}
 use Rattle.units.specs.Units.{mag, Number}
 use Rattle.units.specs.Answers.{Ends, floatBits, listBits}
 use Rattle.units.proofs.Answers.{written, untouched}
-use Rattle.spectrum.specs.Difference.{Difference, whole}
+use Rattle.spectrum.specs.Difference.{Difference, whole, size}
 use Rattle.spectrum.specs.Words.{valueOf, FilledWith}
-use Rattle.spectrum.specs.Transform.{at, Lengths, Element, Elements, Accepts, Turns, Covers, NearOutput, exactRe, exactIm, Transform, bothBits}
-use Rattle.spectrum.specs.Floats.{sizeBits, Largest, Scale, Loaded, bitsOf, StoredReal, StoredImaginary}
+use Rattle.spectrum.specs.Transform.{at, Lengths, Element, Elements, Accepts, Turns, Covers, NearOutput, exactRe, exactIm, errorOf, sumOf, square, Transform, bothBits}
+use Rattle.spectrum.specs.Floats.{sizeIn, sizeBits, Largest, Scale, Loaded, bitsOf, StoredReal, StoredImaginary}
 use Rattle.spectrum.proofs.Written.{Output, output, zero-output}
-use Rattle.spectrum.proofs.Frame.{holdable, real-near, imaginary-near, end-near, element-below}
+use Rattle.spectrum.proofs.Energy.{energy}
+use Rattle.spectrum.proofs.Frame.{holdable, covered, largest-output, real-near, imaginary-near, end-near, element-below}
 
 -- ---- lists of patterns as lists of floats
 abbrev pub floats : List ℕ → List Float
@@ -48,6 +49,7 @@ module _ (xs : List Float) (nre nim : ℕ) {before : List ℕ × List ℕ} where
     finite = λ a. absurd (wrong (a .lengths));
     zero-plus = λ a. absurd (wrong (a .lengths));
     near = λ a. absurd (wrong (a .lengths));
+    energy = λ a. absurd (wrong (a .lengths));
   })
 
   pub refused-element : Lengths xs nre nim → ¬ Elements xs → Ends bothBits (Transform xs nre nim) 1 before before
@@ -59,6 +61,7 @@ module _ (xs : List Float) (nre nim : ℕ) {before : List ℕ × List ℕ} where
     finite = λ a. absurd (wrong (a .elements));
     zero-plus = λ a. absurd (wrong (a .elements));
     near = λ a. absurd (wrong (a .elements));
+    energy = λ a. absurd (wrong (a .elements));
   })
 
 -- a largest pattern from 2 ^ 120 on is that of an element that is none
@@ -129,6 +132,13 @@ module _ (xs : List Float) (nre nim m e : ℕ) (accepts : Accepts xs nre nim) (l
       | inr (a, b) ↦ subst (λ (x : Float). NearOutput x (exactIm xs s k) u l) (sym (at-im k few ∙ ap (ofBits binary32) (imaginary .each k a b))) (imaginary-near xs m e elements largest scale ys r loaded count fills c s u l turns covers k a b)
     ]
 
+  summed : (c s : ℕ → Difference) (u : ℕ) → Turns c s u → 10 ^ 14 * sumOf (λ k. square (errorOf (at (floats re) k) (exactRe xs c k) u) + square (errorOf (at (floats im) k) (exactIm xs s k) u)) 65
+      ≤ sumOf (λ k. square (size (exactRe xs c k)) + square (size (exactIm xs s k))) 65 + 10 ^ 14 * (64 * square u)
+  summed c s u turns =
+      let covers = covered xs m e elements largest scale ys r loaded count fills in
+      energy (λ k. exactRe xs c k) (λ k. exactIm xs s k) (λ k. errorOf (at (floats re) k) (exactRe xs c k) u) (λ k. errorOf (at (floats im) k) (exactIm xs s k) u) u (sizeIn m)
+      (largest-output xs m e elements largest scale ys r loaded count fills (accepts .lengths .values) c s u turns) (λ k l. re-near c s u (sizeIn m) turns covers k l .holds) (λ k l. im-near c s u (sizeIn m) turns covers k l .holds)
+
   kept : Transform xs nre nim 0 (floats re, floats im)
   kept = record {
     bad-length = λ h. absurd (h (accepts .lengths));
@@ -138,6 +148,7 @@ module _ (xs : List Float) (nre nim m e : ℕ) (accepts : Accepts xs nre nim) (l
     finite = λ a. numbers;
     zero-plus = λ a. zeros;
     near = λ a c s u l turns covers k few. (re-near c s u l turns covers k few, im-near c s u l turns covers k few);
+    energy = λ a. summed;
   }
 
   pub promised : {before : List ℕ × List ℕ} → Ends bothBits (Transform xs nre nim) 0 before (re, im)

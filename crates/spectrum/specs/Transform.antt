@@ -103,3 +103,7 @@ pub record Transform (xs : List Float) (nre nim : ℕ) (code : ℕ) (r : List Fl
   pub zero-plus : Accepts xs nre nim → (k : ℕ) → k ≤ 64 → (mag (at (r .0) k) ≡ 0 → floatBits (at (r .0) k) ≡ 0) × (mag (at (r .1) k) ≡ 0 → floatBits (at (r .1) k) ≡ 0)
   -- each within 2 ^ -24 of its own size, 2 ^ -42 of the largest |x_n| and 2 ^ -150 of the exact sum
   pub near : Accepts xs nre nim → (c s : ℕ → Difference) (u l : ℕ) → Turns c s u → Covers l xs → (k : ℕ) → k ≤ 64 → NearOutput (at (r .0) k) (exactRe xs c k) u l × NearOutput (at (r .1) k) (exactIm xs s k) u l
+  -- the sum of all squared errors is at most (10 ^ -7) ^ 2 of the sum of the exact outputs' squares, and (2 ^ -146) ^ 2, or 64 squared units
+  pub energy : Accepts xs nre nim → (c s : ℕ → Difference) (u : ℕ) → Turns c s u →
+      10 ^ 14 * sumOf (λ k. square (errorOf (at (r .0) k) (exactRe xs c k) u) + square (errorOf (at (r .1) k) (exactIm xs s k) u)) 65
+      ≤ sumOf (λ k. square (size (exactRe xs c k)) + square (size (exactIm xs s k))) 65 + 10 ^ 14 * (64 * square u)
