@@ -9,7 +9,7 @@ ghost use Rattle.powers.specs.Exp2.{Exp2};
 ghost use Rattle.logs.specs.Log2.{Log2};
 ghost use Rattle.circle.specs.Promise.{SinPi, CosPi, Sin, Cos};
 ghost use Rattle.sums.specs.Dot.{Dot};
-ghost use Rattle.weights.specs.Softmax.{Softmax2};
+ghost use Rattle.weights.specs.Softmax.{Softmax2, floatsOf};
 
 // The square root of every bit pattern: the nearest float, or code 1 and nothing written.
 #[no_mangle]
@@ -83,7 +83,8 @@ pub extern "C" fn ear_dot(a: &[f32], b: &[f32], out: &mut u32) -> u32
     sums::dot(a, b, out)
 }
 
-// 2 to the power of each element of a list over the sum of all these powers: within 273 / 2^32 of the quotient, or code 2 or 1 and nothing written.
+// 2 to the power of each element of a list over the sum of all these powers: within 273 / 2^32 of the quotient and from below one least float, or code 2
+// or 1 and nothing written.
 #[no_mangle]
 pub extern "C" fn ear_softmax2(x: &[f32], p: &mut [u32]) -> u32
     ensures { λ code. ⌜ Ends listBits (Softmax2 (now (x .entry)) (length (now (p .entry)))) code (now (p .entry)) (now (p .exit)) ⌝ }
@@ -97,4 +98,13 @@ pub extern "C" fn ear_loudness(b: f32, m: f32, t: u32, c: u32, a: f32, out: &mut
     ensures { λ code. ⌜ Ends itself (Loudness b m t c a) code (now (out .entry)) (now (out .exit)) ⌝ }
 {
     loudness::loudness(b, m, t, c, a, out)
+}
+
+// The softmax of the floats that a list holds, in their place: within 273 / 2^32 of the quotient and from below one least float, or code 2 or 1 and
+// nothing written.
+#[no_mangle]
+pub extern "C" fn ear_softmax2_in_place(p: &mut [u32]) -> u32
+    ensures { λ code. ⌜ Ends listBits (Softmax2 (floatsOf (now (p .entry))) (length (now (p .entry)))) code (now (p .entry)) (now (p .exit)) ⌝ }
+{
+    weights::softmax2_in_place(p)
 }

@@ -3,13 +3,13 @@ use mathlib.Core.Path.{_≡_, refl, ap}
 use mathlib.Core.Bool.{Bool, true, false}
 use mathlib.Core.List.{List, _∷_}
 use Prim.Native.Nat.{ℕ, suc, _+_, _*_, _^_, _≤_, _<_, suc-le-suc}
-use native.Mathlib.Nat.{mul-comm, one-le-mul, one-le-pow, mul-le-mul-right}
+use native.Mathlib.Nat.{mul-comm, mul-le-mul-right}
 use native.Mathlib.Omega.{arith}
 use lib.Dec.{T}
 use lib.ListN.{length}
 use Rattle.exact.specs.Power.{AtMost, AtLeast}
 use Rattle.exact.specs.Polynomial.{value}
-use Rattle.exact.proofs.Power.{mul-pow, pow-mul, most-of-less, least-of-more, least-pos}
+use Rattle.exact.proofs.Power.{mul-pow, pow-mul, most-of-less, least-of-more}
 use Rattle.exact.proofs.Growth.{fast, slow, above, beneath}
 use Rattle.exact.proofs.Composite.{Ordered, Composite}
 
@@ -33,10 +33,6 @@ module _ (b c r m K : ℕ) (us : List ℕ) (unit : 0 < K) (cpos : 0 < c) (fits :
   -- a list that lags behind 2 ^ t
   pub is-below : b < c → T (slow b c r K us) → Below m (K ∷ us) K
   is-below less t = record { unit = unit; fits = suc-le-suc fits; bound = λ p q qpos. beneath b c r K us m fits p q cpos qpos unit less t }
-
--- what bounds from above is above zero
-pub above-pos : {m : ℕ} {us : List ℕ} {K : ℕ} → Above m us K → (p q : ℕ) → 0 < q → p ≤ q → 0 < value m us p q
-above-pos e p q pos small = least-pos (e .bound p q pos small)
 
 -- ---- a composite with a bound of 2 ^ t, where t = z / w and E = cs(x) - ds(x)
 

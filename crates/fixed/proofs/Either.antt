@@ -61,14 +61,6 @@ module _ (x : Float) (h : Number x) where
   pub sign-bit : bits / 2147483648 ≡ cond (negative x) 1 0
   sign-bit = both .0
 
-  -- which is 0 or 1
-  pub sign-most : bits / 2147483648 ≤ 1
-  sign-most = le-trans (le-of-eq sign-bit) (go (negative x))
-    where
-      go : (s : Bool) → cond s 1 0 ≤ 1
-      go true = omega arith
-      go false = omega arith
-
   -- the size
   pub size-bits : Normal x (bits % 2147483648) ⊎ Subnormal x (bits % 2147483648)
   size-bits = both .1

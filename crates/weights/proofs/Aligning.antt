@@ -1,11 +1,23 @@
 -- The sum of the powers in one word: each is cut off to steps of the largest one's exponent, and one step more makes up for it. Assumes nothing.
 use mathlib.Core.Path.{_≡_}
-use Prim.Native.Nat.{ℕ, _+_, _-_, _*_, _/_, _^_, _≤_, _<_}
+use mathlib.Core.List.{List}
+use Prim.Native.Nat.{ℕ, zero, suc, _+_, _-_, _*_, _/_, _^_, _≤_, _<_}
 use native.Mathlib.Nat.{le-trans, lt-of-lt-of-le, le-of-mul-le-mul-right, mul-le-mul-right, div-mul-le-self, lt-div-mul-add, div-le-self, div-eq-of-lt}
 use native.Mathlib.Omega.{arith}
 use lib.Pow.{pow-pos, pow-mono}
 use Rattle.units.proofs.Naturals.{pow-split}
-use Rattle.weights.specs.Weight.{Aligned}
+use Rattle.powers.specs.Fixed.{fixedDigits, fixedExponent, fixedPower}
+use lib.Ieee.{Float}
+use Rattle.weights.specs.Lists.{at, sum}
+use Rattle.weights.specs.Softmax.{Element}
+use Rattle.weights.specs.Value.{powerAt, shareOf, shareAt}
+use Rattle.weights.proofs.Range.{power}
+use Rattle.weights.proofs.Families.{sum-few}
+
+-- s is the number p in steps of 2 ^ (e - 20), rounded up by k steps at most
+pub record Aligned (p e k s : ℕ) : Type 0 where
+  pub least : p * 2 ^ 20 ≤ s * 2 ^ e
+  pub most : s * 2 ^ e ≤ p * 2 ^ 20 + k * 2 ^ e
 
 -- ---- one power, r digits with the exponent E, in steps of the exponent e
 module _ (r E e : ℕ) (up : E ≤ e) (small : r ≤ 2 ^ 33) where
@@ -16,11 +28,10 @@ module _ (r E e : ℕ) (up : E ≤ e) (small : r ≤ 2 ^ 33) where
   q = r * 1048576 / G
 
   -- the steps that are left, and one more
-  pub share-aligned : Aligned (r * 2 ^ E) e 1 (q + 1)
-  share-aligned = record {
+  digits-aligned : Aligned (r * 2 ^ E) e 1 (q + 1)
+  digits-aligned = record {
     least = rw (pow-split E e up) (rounded-up q G (2 ^ E) (lt-div-mul-add (pow-pos (e - E))));
     most = rw (pow-split E e up) (not-more q G (2 ^ E) (div-mul-le-self (r * 1048576) G));
-    small = omega (arith, div-le-self (r * 1048576) G);
   }
     where
       rounded-up : (q G U : ℕ) → r * 1048576 < q * G + G → r * U * 2 ^ 20 ≤ (q + 1) * (G * U)
@@ -29,28 +40,56 @@ module _ (r E e : ℕ) (up : E ≤ e) (small : r ≤ 2 ^ 33) where
       not-more : (q G U : ℕ) → q * G ≤ r * 1048576 → (q + 1) * (G * U) ≤ r * U * 2 ^ 20 + 1 * (G * U)
       not-more q G U h = omega (arith, mul-le-mul-right U h)
 
+  digits-few : q ≤ 2 ^ 53
+  digits-few = omega (arith, div-le-self (r * 1048576) G)
+
   -- none are left of one that is 64 exponents below
-  pub share-far : 64 ≤ e - E → q ≡ 0
-  share-far far = div-eq-of-lt (lt-of-lt-of-le (omega arith) (pow-mono {i = 64} {j = e - E} far))
+  digits-far : 64 ≤ e - E → q ≡ 0
+  digits-far far = div-eq-of-lt (lt-of-lt-of-le (omega arith) (pow-mono {i = 64} {j = e - E} far))
+
+-- of an element
+module _ (x : Float) (a : Element x) (e : ℕ) (up : fixedExponent x ≤ e) where
+  share-aligned : Aligned (fixedPower x) e 1 (shareOf e x)
+  unfolding shareOf
+  share-aligned = digits-aligned (fixedDigits x) (fixedExponent x) e up (power x a .most)
+
+  share-few : shareOf e x ≤ 2 ^ 53 + 1
+  unfolding shareOf
+  share-few = omega (arith, digits-few (fixedDigits x) (fixedExponent x) e up (power x a .most))
+
+  pub share-far : 64 ≤ e - fixedExponent x → shareOf e x ≡ 1
+  unfolding shareOf
+  share-far far = rw (digits-far (fixedDigits x) (fixedExponent x) e up (power x a .most) far)
 
 -- ---- their sum
 -- nothing yet
-pub aligned-none : (e : ℕ) → Aligned 0 e 0 0
-aligned-none e = record { least = omega arith; most = omega arith; small = omega arith }
+aligned-none : (e : ℕ) → Aligned 0 e 0 0
+aligned-none e = record { least = omega arith; most = omega arith }
 
 -- one more
-pub aligned-more : (p p′ e k s s′ : ℕ) → Aligned p e k s → Aligned p′ e 1 s′ → Aligned (p + p′) e (k + 1) (s + s′)
-aligned-more p p′ e k s s′ a b = record {
-  least = added (2 ^ e) (a .least) (b .least);
-  most = in-all (2 ^ e) (a .most) (b .most);
-  small = omega (arith, a .small, b .small);
-}
+aligned-more : (p p′ e k s s′ : ℕ) → Aligned p e k s → Aligned p′ e 1 s′ → Aligned (p + p′) e (suc k) (s + s′)
+aligned-more p p′ e k s s′ a b = record { least = added (2 ^ e) (a .least) (b .least); most = in-all (2 ^ e) (a .most) (b .most) }
   where
     added : (U : ℕ) → p * 2 ^ 20 ≤ s * U → p′ * 2 ^ 20 ≤ s′ * U → (p + p′) * 2 ^ 20 ≤ (s + s′) * U
     added U h g = omega arith
 
-    in-all : (U : ℕ) → s * U ≤ p * 2 ^ 20 + k * U → s′ * U ≤ p′ * 2 ^ 20 + 1 * U → (s + s′) * U ≤ (p + p′) * 2 ^ 20 + (k + 1) * U
+    in-all : (U : ℕ) → s * U ≤ p * 2 ^ 20 + k * U → s′ * U ≤ p′ * 2 ^ 20 + 1 * U → (s + s′) * U ≤ (p + p′) * 2 ^ 20 + suc k * U
     in-all U h g = omega arith
+
+-- all of them
+pub sum-aligned : (xs : List Float) (e n : ℕ) → ((i : ℕ) → i < n → Element (at xs i) × (fixedExponent (at xs i) ≤ e)) → Aligned (sum (powerAt xs) n) e n (sum (shareAt e xs) n)
+unfolding sum
+sum-aligned xs e zero all = aligned-none e
+sum-aligned xs e (suc n) all =
+    let (a, up) = all n (omega arith) in
+    aligned-more _ _ e n _ _ (sum-aligned xs e n (λ i h. all i (omega arith))) (share-aligned (at xs n) a e up)
+
+-- 1,024 of them fit a word
+pub sum-fits : (xs : List Float) (e n : ℕ) → n ≤ 1024 → ((i : ℕ) → i < n → Element (at xs i) × (fixedExponent (at xs i) ≤ e)) → sum (shareAt e xs) n < 2 ^ 64
+sum-fits xs e n few all = room (sum (shareAt e xs) n) (sum-few (shareAt e xs) n (2 ^ 53 + 1) (λ i h. share-few (at xs i) (all i h .0) e (all i h .1)))
+  where
+    room : (t : ℕ) → t ≤ n * (2 ^ 53 + 1) → t < 2 ^ 64
+    room t h = omega (arith, mul-le-mul-right (2 ^ 53 + 1) few)
 
 -- with a power of the exponent e among them there are 2 ^ 52 steps and more
 pub aligned-many : (p e k s : ℕ) → Aligned p e k s → 2 ^ 32 * 2 ^ e ≤ p → 2 ^ 52 ≤ s

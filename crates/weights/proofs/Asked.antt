@@ -12,10 +12,11 @@ use lib.ListN.{length}
 use lib.Ieee.{Float}
 use Rattle.units.specs.Units.{P}
 use Rattle.units.proofs.Naturals.{le-or-lt}
-use Rattle.exact.proofs.Power.{most-of-less, least-of-more, least-pos}
+use Rattle.exact.proofs.Power.{most-of-less, least-of-more}
 use Rattle.powers.specs.Fixed.{fixedAbove, fixedBelow}
-use Rattle.weights.specs.Softmax.{at, sum, Elements, Encloses, Near, Whole, softmaxError, wholeError, softmaxUnit}
-use Rattle.weights.specs.Weight.{powerAt}
+use Rattle.weights.specs.Lists.{at, sum}
+use Rattle.weights.specs.Softmax.{Elements, Encloses, NearQuotients, Whole, softmaxErrorNum, softmaxErrorDen, wholeErrorNum, wholeErrorDen}
+use Rattle.weights.specs.Value.{powerAt}
 use Rattle.weights.specs.Asked.{QuotientAtLeast, QuotientAtMost, Asked}
 use Rattle.weights.proofs.Range.{power}
 use Rattle.weights.proofs.Families.{sum-le, member}
@@ -31,10 +32,10 @@ k = (D + fixedBelow) * (D + fixedAbove)
 -- ---- over plain numbers: p units, of t in the sum T, with the enclosure from D D to k times these
 module _ (p t T : ℕ) where
   -- q ≥ 2 ^ -100 makes p 2 ^ 48 units at least
-  large : 0 < t → (D - softmaxError) * (D * D * t * 2 ^ 149) ≤ D * (p * (k * T)) → D * D * T ≤ 2 ^ 100 * (k * t) → 2 ^ 48 ≤ p
+  large : 0 < t → (D - softmaxErrorNum) * (D * D * t * 2 ^ 149) ≤ D * (p * (k * T)) → D * D * T ≤ 2 ^ 100 * (k * t) → 2 ^ 48 ≤ p
   large pos near above =
       le-of-mul-le-mul-right
-      (le-trans (ratio-weaker t (p * t) _ _ (2 ^ 48) 1 (lit< tt) (ratio-trans t (p * T) (p * t) ((D - softmaxError) * (D * D * 2 ^ 149)) (D * k) (D * D) (2 ^ 100 * k) (first (D - softmaxError) (D * D) (2 ^ 149) D k near) (second (D * D) (2 ^ 100) k above)) (lit≤ tt)) (omega arith))
+      (le-trans (ratio-weaker t (p * t) _ _ (2 ^ 48) 1 (lit< tt) (ratio-trans t (p * T) (p * t) ((D - softmaxErrorNum) * (D * D * 2 ^ 149)) (D * k) (D * D) (2 ^ 100 * k) (first (D - softmaxErrorNum) (D * D) (2 ^ 149) D k near) (second (D * D) (2 ^ 100) k above)) (lit≤ tt)) (omega arith))
       pos
     where
       first : (c E M D k : ℕ) → c * (E * t * M) ≤ D * (p * (k * T)) → t * (c * (E * M)) ≤ p * T * (D * k)
@@ -44,10 +45,10 @@ module _ (p t T : ℕ) where
       second E m k h = omega (arith, mul-le-mul-left p h)
 
   -- q ≤ 2 ^ -100 makes p 2 ^ 50 units at most
-  small : 0 < T → D * (p * (D * D * T)) ≤ (D + softmaxError) * (k * t * 2 ^ 149) → 2 ^ 100 * (D * D * t) ≤ k * T → p ≤ 2 ^ 50
+  small : 0 < T → D * (p * (D * D * T)) ≤ (D + softmaxErrorNum) * (k * t * 2 ^ 149) → 2 ^ 100 * (D * D * t) ≤ k * T → p ≤ 2 ^ 50
   small pos near below =
       le-of-mul-le-mul-right
-      (le-trans (omega arith) (ratio-weaker (p * T) T _ _ 1 (2 ^ 50) (lit< tt) (ratio-trans (p * T) t T (D * (D * D)) ((D + softmaxError) * (k * 2 ^ 149)) (2 ^ 100 * (D * D)) k (first (D + softmaxError) (D * D) (2 ^ 149) D k near) (second (D * D) (2 ^ 100) k below)) (lit≤ tt)))
+      (le-trans (omega arith) (ratio-weaker (p * T) T _ _ 1 (2 ^ 50) (lit< tt) (ratio-trans (p * T) t T (D * (D * D)) ((D + softmaxErrorNum) * (k * 2 ^ 149)) (2 ^ 100 * (D * D)) k (first (D + softmaxErrorNum) (D * D) (2 ^ 149) D k near) (second (D * D) (2 ^ 100) k below)) (lit≤ tt)))
       pos
     where
       first : (c E M D k : ℕ) → D * (p * (E * T)) ≤ c * (k * t * M) → p * T * (D * E) ≤ t * (c * (k * M))
@@ -58,37 +59,37 @@ module _ (p t T : ℕ) where
 
 -- ---- and for any enclosure, the one from l to u and the sum from L to R, with M for 2 ^ 149
 module _ (p l u L R M b : ℕ) (fine : b ≤ 2 ^ 23) where
-  relative-most : softmaxUnit * (p * L) ≤ (softmaxUnit + softmaxError) * (u * M) → b * (p * L) ≤ (b + 1) * (u * M)
-  relative-most h = ratio-weaker (p * L) (u * M) softmaxUnit (softmaxUnit + softmaxError) b (b + 1) (lit< tt) (turned (p * L) (u * M) h) (omega arith)
+  relative-most : softmaxErrorDen * (p * L) ≤ (softmaxErrorDen + softmaxErrorNum) * (u * M) → b * (p * L) ≤ (b + 1) * (u * M)
+  relative-most h = ratio-weaker (p * L) (u * M) softmaxErrorDen (softmaxErrorDen + softmaxErrorNum) b (b + 1) (lit< tt) (turned (p * L) (u * M) h) (omega arith)
     where
-      turned : (a c : ℕ) → softmaxUnit * a ≤ (softmaxUnit + softmaxError) * c → a * softmaxUnit ≤ c * (softmaxUnit + softmaxError)
+      turned : (a c : ℕ) → softmaxErrorDen * a ≤ (softmaxErrorDen + softmaxErrorNum) * c → a * softmaxErrorDen ≤ c * (softmaxErrorDen + softmaxErrorNum)
       turned a c h = omega arith
 
   -- one unit more of 2 ^ 48 counts for nothing
-  relative-least : 2 ^ 48 ≤ p + 1 → (softmaxUnit - softmaxError) * (l * M) ≤ softmaxUnit * ((p + 1) * R) → (b - 1) * (l * M) ≤ b * (p * R)
+  relative-least : 2 ^ 48 ≤ p + 1 → (softmaxErrorDen - softmaxErrorNum) * (l * M) ≤ softmaxErrorDen * ((p + 1) * R) → (b - 1) * (l * M) ≤ b * (p * R)
   relative-least many h =
-      ratio-weaker (l * M) (p * R) ((softmaxUnit - softmaxError) * (2 ^ 48 - 1)) (softmaxUnit * 2 ^ 48) (b - 1) b (lit< tt)
+      ratio-weaker (l * M) (p * R) ((softmaxErrorDen - softmaxErrorNum) * (2 ^ 48 - 1)) (softmaxErrorDen * 2 ^ 48) (b - 1) b (lit< tt)
       (ratio-trans (l * M) ((p + 1) * R) (p * R) _ _ _ _ (turned (l * M) ((p + 1) * R) h) (one-less R)) (omega arith)
     where
-      turned : (a c : ℕ) → (softmaxUnit - softmaxError) * a ≤ softmaxUnit * c → a * (softmaxUnit - softmaxError) ≤ c * softmaxUnit
+      turned : (a c : ℕ) → (softmaxErrorDen - softmaxErrorNum) * a ≤ softmaxErrorDen * c → a * (softmaxErrorDen - softmaxErrorNum) ≤ c * softmaxErrorDen
       turned a c h = omega arith
 
       one-less : (R : ℕ) → (p + 1) * R * (2 ^ 48 - 1) ≤ p * R * 2 ^ 48
       one-less R = omega (arith, mul-le-mul-right R many)
 
-  absolute-most : p ≤ 2 ^ 50 → softmaxUnit * (p * L) ≤ (softmaxUnit + softmaxError) * (u * M) → p * L ≤ u * M + 2 ^ 49 * L
+  absolute-most : p ≤ 2 ^ 50 → softmaxErrorDen * (p * L) ≤ (softmaxErrorDen + softmaxErrorNum) * (u * M) → p * L ≤ u * M + 2 ^ 49 * L
   absolute-most few h = elim (le-or-lt (2 ^ 50 * L) (u * M)) [
     | inl g ↦ le-trans (mul-le-mul-right L few) (le-trans g (omega arith))
     | inr g ↦ closer (p * L) (u * M) h g
   ]
     where
-      closer : (a c : ℕ) → softmaxUnit * a ≤ (softmaxUnit + softmaxError) * c → c < 2 ^ 50 * L → a ≤ c + 2 ^ 49 * L
+      closer : (a c : ℕ) → softmaxErrorDen * a ≤ (softmaxErrorDen + softmaxErrorNum) * c → c < 2 ^ 50 * L → a ≤ c + 2 ^ 49 * L
       closer a c h g = omega arith
 
-  absolute-least : l * M ≤ 2 ^ 49 * R → (softmaxUnit - softmaxError) * (l * M) ≤ softmaxUnit * ((p + 1) * R) → l * M ≤ (p + 2 ^ 49) * R
+  absolute-least : l * M ≤ 2 ^ 49 * R → (softmaxErrorDen - softmaxErrorNum) * (l * M) ≤ softmaxErrorDen * ((p + 1) * R) → l * M ≤ (p + 2 ^ 49) * R
   absolute-least below h = closer (l * M) R below h
     where
-      closer : (a R : ℕ) → a ≤ 2 ^ 49 * R → (softmaxUnit - softmaxError) * a ≤ softmaxUnit * ((p + 1) * R) → a ≤ (p + 2 ^ 49) * R
+      closer : (a R : ℕ) → a ≤ 2 ^ 49 * R → (softmaxErrorDen - softmaxErrorNum) * a ≤ softmaxErrorDen * ((p + 1) * R) → a ≤ (p + 2 ^ 49) * R
       closer a R g h = omega arith
 
 -- ---- the powers in fixed point enclose the real powers
@@ -101,11 +102,8 @@ module _ (xs : List Float) (all : Elements xs) where
 
   own : Encloses xs below above (D * (D + fixedAbove) * 2 ^ 158)
   own = record {
-    positive = lit< tt;
     below = λ j h. most-of-less (lit< tt) (le-of-eq (under D (D + fixedAbove) (2 ^ 158) (powerAt xs j))) (power (at xs j) (all .each j h) .at-most);
-    above = λ j h.
-        let a = power (at xs j) (all .each j h) .at-least in
-        least-of-more (least-pos (lit< tt) (pow-pos 149) a) (le-of-eq (over D (D + fixedBelow) (D + fixedAbove) (2 ^ 158) (powerAt xs j))) a;
+    above = λ j h. least-of-more (lit< tt) (le-of-eq (over D (D + fixedBelow) (D + fixedAbove) (2 ^ 158) (powerAt xs j))) (power (at xs j) (all .each j h) .at-least);
   }
     where
       under : (D c B t : ℕ) → D * D * t * (c * B) ≡ D * t * (D * c * B)
@@ -121,7 +119,7 @@ module _ (xs : List Float) (all : Elements xs) where
   sum-least : (c : ℕ) → c * sum (powerAt xs) (length xs) ≤ sum (λ j. c * powerAt xs j) (length xs)
   sum-least c = let h = sum-le (powerAt xs) (λ j. c * powerAt xs j) c 1 (length xs) (λ j l. omega arith) in omega arith
 
-  module _ (ps : List Float) (near : Near softmaxError softmaxUnit xs ps) (i : ℕ) (h : i < length xs) where
+  module _ (ps : List Float) (near : NearQuotients softmaxErrorNum softmaxErrorDen xs ps) (i : ℕ) (h : i < length xs) where
     abbrev p : ℕ
     p = P (at ps i)
 
@@ -135,17 +133,17 @@ module _ (xs : List Float) (all : Elements xs) where
     output-large : QuotientAtLeast xs i → 2 ^ 48 ≤ p + 1
     output-large q =
         large (p + 1) (powerAt xs i) T positive
-        (le-trans (near .least below above _ own i h) (mul-le-mul-left softmaxUnit (mul-le-mul-left (p + 1) (sum-most k)))) (le-trans (sum-least (D * D)) (q .holds below above _ own))
+        (le-trans (near .least below above _ own i h) (mul-le-mul-left softmaxErrorDen (mul-le-mul-left (p + 1) (sum-most k)))) (le-trans (sum-least (D * D)) (q .holds below above _ own))
 
     -- and where it is at most that
     output-small : QuotientAtMost xs i → p ≤ 2 ^ 50
     output-small q =
         small p (powerAt xs i) T (lt-of-lt-of-le positive (member (powerAt xs) (length xs) i h))
-        (le-trans (mul-le-mul-left softmaxUnit (mul-le-mul-left p (sum-least (D * D)))) (near .most below above _ own i h)) (le-trans (q .holds below above _ own) (sum-most k))
+        (le-trans (mul-le-mul-left softmaxErrorDen (mul-le-mul-left p (sum-least (D * D)))) (near .most below above _ own i h)) (le-trans (q .holds below above _ own) (sum-most k))
 
 -- ---- the laws: from the promise to what is asked
 -- rel 1 / b where q_i ≥ 2 ^ -100, otherwise abs 2 ^ -100, for every b up to 2 ^ 23; document 01 has b = 2 ^ 13
-pub as-asked : (b : ℕ) → b ≤ 2 ^ 23 → (xs ps : List Float) → Elements xs → Near softmaxError softmaxUnit xs ps → Asked b xs ps
+pub as-asked : (b : ℕ) → b ≤ 2 ^ 23 → (xs ps : List Float) → Elements xs → NearQuotients softmaxErrorNum softmaxErrorDen xs ps → Asked b xs ps
 as-asked b fine xs ps all near = record {
   relative = λ i h q. record {
     most = λ l u d e. relative-most (P (at ps i)) (l i) (u i) (sum l (length xs)) (sum u (length xs)) (2 ^ 149) b fine (near .most l u d e i h);
@@ -161,14 +159,14 @@ as-asked b fine xs ps all near = record {
     scaled l c e R h = omega (arith, mul-le-mul-right e h)
 
 -- the sum of all p_i within 1 / b of 1, for every b up to 2 ^ 23
-pub whole-as-asked : (b : ℕ) → b ≤ 2 ^ 23 → (ps : List Float) → Whole wholeError softmaxUnit ps → Whole 1 b ps
+pub whole-as-asked : (b : ℕ) → b ≤ 2 ^ 23 → (ps : List Float) → Whole wholeErrorNum wholeErrorDen ps → Whole 1 b ps
 whole-as-asked b fine ps w = record {
   most = above (sum (λ i. P (at ps i)) (length ps)) (2 ^ 149) (w .most);
   least = below (sum (λ i. P (at ps i)) (length ps)) (2 ^ 149) (w .least);
 }
   where
-    above : (W M : ℕ) → softmaxUnit * W ≤ (softmaxUnit + wholeError) * M → b * W ≤ (b + 1) * M
-    above W M h = ratio-weaker W M softmaxUnit (softmaxUnit + wholeError) b (b + 1) (lit< tt) (omega arith) (omega arith)
+    above : (W M : ℕ) → wholeErrorDen * W ≤ (wholeErrorDen + wholeErrorNum) * M → b * W ≤ (b + 1) * M
+    above W M h = ratio-weaker W M wholeErrorDen (wholeErrorDen + wholeErrorNum) b (b + 1) (lit< tt) (omega arith) (omega arith)
 
-    below : (W M : ℕ) → (softmaxUnit - wholeError) * M ≤ softmaxUnit * W → (b - 1) * M ≤ b * W
-    below W M h = ratio-weaker M W (softmaxUnit - wholeError) softmaxUnit (b - 1) b (lit< tt) (omega arith) (omega arith)
+    below : (W M : ℕ) → (wholeErrorDen - wholeErrorNum) * M ≤ wholeErrorDen * W → (b - 1) * M ≤ b * W
+    below W M h = ratio-weaker M W (wholeErrorDen - wholeErrorNum) wholeErrorDen (b - 1) b (lit< tt) (omega arith) (omega arith)

@@ -1,9 +1,12 @@
 pub mod Range
-pub mod Maximum
+pub mod Source
 pub mod Families
+pub mod Keys
 pub mod Aligning
 pub mod Inverting
+pub mod Scaled
 pub mod Rounding
 pub mod Quotient
 pub mod Promise
+pub mod Enclosures
 pub mod Asked

@@ -6,9 +6,10 @@ use native.Mathlib.Omega.{arith}
 use lib.Dec.{lit<, lit≤}
 use lib.Pow.{pow-pos, pow-mono}
 use Rattle.powers.specs.Fixed.{fixedAbove, fixedBelow}
-use Rattle.weights.specs.Softmax.{sum, softmaxError, wholeError, softmaxUnit}
-use Rattle.weights.specs.Weight.{Inverse}
+use Rattle.weights.specs.Lists.{sum}
+use Rattle.weights.specs.Softmax.{softmaxErrorNum, softmaxErrorDen, wholeErrorNum, wholeErrorDen}
 use Rattle.weights.proofs.Families.{sum-le, sum-within}
+use Rattle.weights.proofs.Inverting.{Inverse}
 
 module _ (t u : ℕ → ℕ) (n r c : ℕ) (inverse : Inverse (sum t n) r c)
     (most : (i : ℕ) → i < n → u i * 2 ^ 24 * 2 ^ c ≤ t i * r * 2 ^ 75 * (2 ^ 24 + 1))
@@ -47,23 +48,23 @@ module _ (t u : ℕ → ℕ) (n r c : ℕ) (inverse : Inverse (sum t n) r c)
       turned u t A C L K h = omega arith
 
   -- at most 1 + 263 2 ^ -32
-  pub whole-most : softmaxUnit * W ≤ (softmaxUnit + wholeError) * 2 ^ 149
+  pub whole-most : wholeErrorDen * W ≤ (wholeErrorDen + wholeErrorNum) * 2 ^ 149
   whole-most = enough W (2 ^ 149) (le-of-mul-le-mul-right (through W T (2 ^ 24) (2 ^ 24 + 1) (2 ^ 75) (2 ^ 74) (2 ^ c) total-most (inverse .most)) (pow-pos c))
     where
       through : (W T A K L M C : ℕ) → W * (A * C) ≤ T * (r * L * K) → T * r ≤ M * C → W * A * C ≤ L * M * K * C
       through W T A K L M C a b = omega (arith, mul-le-mul-left (L * K) b)
 
-      enough : (W M : ℕ) → W * 2 ^ 24 ≤ M * (2 ^ 24 + 1) → softmaxUnit * W ≤ (softmaxUnit + wholeError) * M
+      enough : (W M : ℕ) → W * 2 ^ 24 ≤ M * (2 ^ 24 + 1) → wholeErrorDen * W ≤ (wholeErrorDen + wholeErrorNum) * M
       enough W M h = omega arith
 
   -- at least 1 - 263 2 ^ -32: the units that are cut off, one for each, count for nothing
-  pub whole-least : n ≤ 1024 → (softmaxUnit - wholeError) * 2 ^ 149 ≤ softmaxUnit * W
+  pub whole-least : n ≤ 1024 → (wholeErrorDen - wholeErrorNum) * 2 ^ 149 ≤ wholeErrorDen * W
   whole-least few = enough W (2 ^ 149) (pow-mono {i = 66} {j = 149} (omega arith)) (le-of-mul-le-mul-right (through W T (2 ^ 24) (2 ^ 24 - 1) (2 ^ 32 - 7) (2 ^ 32) (2 ^ 75) (2 ^ 74) (2 ^ c) total-least (inverse .least)) (pow-pos c))
     where
       through : (W T A K J D L M C : ℕ) → T * (r * L * K) ≤ (W + 1 * n) * (A * C) → J * (M * C) ≤ D * (T * r) → L * M * K * J * C ≤ D * (W + n) * A * C
       through W T A K J D L M C a b = omega (arith, mul-le-mul-left (L * K) b, mul-le-mul-left D a)
 
-      enough : (W M : ℕ) → 2 ^ 66 ≤ M → M * (2 ^ 24 - 1) * (2 ^ 32 - 7) ≤ 2 ^ 32 * (W + n) * 2 ^ 24 → (softmaxUnit - wholeError) * M ≤ softmaxUnit * W
+      enough : (W M : ℕ) → 2 ^ 66 ≤ M → M * (2 ^ 24 - 1) * (2 ^ 32 - 7) ≤ 2 ^ 32 * (W + n) * 2 ^ 24 → (wholeErrorDen - wholeErrorNum) * M ≤ wholeErrorDen * W
       enough W M l h = omega arith
 
 -- ---- ratios
@@ -91,10 +92,10 @@ module _ (p T t d B M : ℕ) (positive : 0 < B) where
 
   -- p ≤ (1 + 273 2 ^ -32) u / L
   pub near-most : (u L : ℕ) → L * (2 ^ 32 * B) ≤ T * ((2 ^ 32 + fixedBelow) * d) → t * (2 ^ 32 * d) ≤ u * ((2 ^ 32 + fixedAbove) * B) → p * 2 ^ 24 * T ≤ t * (2 ^ 24 + 1) * M
-      → softmaxUnit * (p * L) ≤ (softmaxUnit + softmaxError) * (u * M)
+      → softmaxErrorDen * (p * L) ≤ (softmaxErrorDen + softmaxErrorNum) * (u * M)
   near-most u L lower upper quotient =
-      without softmaxUnit (p * L) (softmaxUnit + softmaxError) (u * M)
-      (ratio-weaker (p * L * B) (u * M * B) _ _ softmaxUnit (softmaxUnit + softmaxError) (lit< tt)
+      without softmaxErrorDen (p * L) (softmaxErrorDen + softmaxErrorNum) (u * M)
+      (ratio-weaker (p * L * B) (u * M * B) _ _ softmaxErrorDen (softmaxErrorDen + softmaxErrorNum) (lit< tt)
       (ratio-trans (p * L * B) (t * M * d) (u * M * B) _ _ _ _ (ratio-trans (p * L * B) (p * T * d) (t * M * d) _ _ _ _ first second) third) (lit≤ tt))
     where
       first : p * L * B * 2 ^ 32 ≤ p * T * d * (2 ^ 32 + fixedBelow)
@@ -108,10 +109,10 @@ module _ (p T t d B M : ℕ) (positive : 0 < B) where
 
   -- (1 - 273 2 ^ -32) l / R ≤ p, for p with one least float more
   pub near-least : (l R : ℕ) → l * (2 ^ 32 * B) ≤ t * ((2 ^ 32 + fixedBelow) * d) → T * (2 ^ 32 * d) ≤ R * ((2 ^ 32 + fixedAbove) * B) → t * (2 ^ 24 - 1) * (2 ^ 32 - 7) * M ≤ p * 2 ^ 24 * 2 ^ 32 * T
-      → (softmaxUnit - softmaxError) * (l * M) ≤ softmaxUnit * (p * R)
+      → (softmaxErrorDen - softmaxErrorNum) * (l * M) ≤ softmaxErrorDen * (p * R)
   near-least l R lower upper quotient =
-      without (softmaxUnit - softmaxError) (l * M) softmaxUnit (p * R)
-      (ratio-weaker (l * M * B) (p * R * B) _ _ (softmaxUnit - softmaxError) softmaxUnit (lit< tt)
+      without (softmaxErrorDen - softmaxErrorNum) (l * M) softmaxErrorDen (p * R)
+      (ratio-weaker (l * M * B) (p * R * B) _ _ (softmaxErrorDen - softmaxErrorNum) softmaxErrorDen (lit< tt)
       (ratio-trans (l * M * B) (p * T * d) (p * R * B) _ _ _ _ (ratio-trans (l * M * B) (t * M * d) (p * T * d) _ _ _ _ first second) third) (lit≤ tt))
     where
       first : l * M * B * 2 ^ 32 ≤ t * M * d * (2 ^ 32 + fixedBelow)

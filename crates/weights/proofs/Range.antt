@@ -1,50 +1,62 @@
--- The two tests of an element accept the finite floats from -64 to 64, and no others; 2 ^ x accepts every such float, with an exponent from 62 to 190. Assumes nothing.
-use mathlib.Core.Path.{_≡_}
+-- The test of an element's pattern accepts the finite floats from -64 to 64, and no others; 2 ^ x accepts every such float, with an exponent from 62 to 190. Assumes nothing.
+use mathlib.Core.Path.{_≡_, sym, _∙_, subst}
 use mathlib.Core.Logic.{inr}
-use mathlib.Core.Bool.{true, false}
-use Prim.Native.Nat.{_*_, _^_, _≤_}
-use native.Mathlib.Nat.{le-trans}
+use mathlib.Core.Bool.{Bool, not}
+use Prim.Native.Nat.{ℕ, _%_, _≤_, _<_}
+use native.Mathlib.Nat.{le-trans, not-le-of-lt}
 use native.Mathlib.Omega.{arith}
-use lib.Dec.{T, lit≤}
-use lib.Ieee.{Float, binary32, fits, le, neg, ofBits}
-use Rattle.units.proofs.Bits.{Is, put-positive}
-use Rattle.units.proofs.Between.{between, not-below, not-above}
+use borrow.Author.Tests.{leb-true, leb-false, le-ltb}
+use lib.Dec.{T, leb, lit≤}
+use lib.Ieee.{Float, binary32, ofBits, toBits, nanBits}
+use lib.Ieee.Bits.{ofBits-fits, nanBits-is, nanBits-above}
+use Rattle.units.specs.Units.{Number}
+use Rattle.units.specs.Tests.{Tells}
+use Rattle.units.proofs.Patterns.{Shape, within, beyond, pattern-back}
+use Rattle.units.proofs.Between.{size-between, between-size}
+use Rattle.fixed.proofs.Take.{no-nan}
 use Rattle.powers.specs.Exp2 as exp2
 use Rattle.powers.specs.Fixed.{fixedDigits, fixedExponent, FixedExp2}
 use Rattle.powers.proofs.Fixed.{fixed, exponent-least, exponent-most}
 use Rattle.weights.specs.Softmax.{Element}
 
--- 64; the program writes it and its opposite
-abbrev top : Float
-top = ofBits binary32 0x42800000
+-- the digits of 64, with 132 for their exponent
+top : Shape 0x800000 132
+top = record { few = omega arith; first = inr (omega arith) }
 
-top-is : Is top false (64 * 2 ^ 149)
-top-is = put-positive 0x800000 132 (inr (omega arith)) (omega arith) (omega arith)
+module _ (b : ℕ) where
+  -- the pattern of a number is no NaN's
+  pub not-nan : Number (ofBits binary32 b) → T (not (nanBits binary32 b))
+  not-nan n = subst (λ (t : Bool). T (not t)) (sym (nanBits-is binary32 b)) (no-nan (ofBits binary32 b) n)
 
-module _ (x : Float) where
-  -- both tests passed
-  pub in-range : T (fits binary32 x) → le (neg top) x ≡ true → le x top ≡ true → Element x
-  in-range f a b = let (n, l, m) = between top top x _ _ top-is top-is f a b in record { number = n; at-least = l; at-most = m }
+  module _ (small : b < 4294967296) where
+    -- and that of its float
+    pub own-pattern : Number (ofBits binary32 b) → toBits binary32 (ofBits binary32 b) ≡ b
+    own-pattern n = pattern-back b small (not-nan n)
 
-  -- the first failed
-  pub too-low : le (neg top) x ≡ false → ¬ Element x
-  too-low e a = not-below top top x _ _ top-is top-is (a .number) (a .at-least) e
+    -- up to 64's it is a number's
+    below : b % 2147483648 ≤ 0x42800000 → T (not (nanBits binary32 b))
+    below l = subst (λ (t : Bool). T (not t)) (sym (nanBits-above binary32 b ∙ le-ltb 2139095040 (b % 2147483648) (omega arith))) tt
 
-  -- the second failed
-  pub too-high : le x top ≡ false → ¬ Element x
-  too-high e a = not-above top top x _ _ top-is top-is (a .number) (a .at-most) e
+    pub accepted-test : Tells (Element (ofBits binary32 b)) (leb (b % 2147483648) 0x42800000)
+    accepted-test = record {
+      if-true = λ e.
+          let l = leb-true _ _ e in
+          let (n, m) = within 0x800000 132 top (ofBits binary32 b) (omega arith) (ofBits-fits binary32 b) (rw (pattern-back b small (below l)) l) in
+          size-between n m;
+      if-false = λ e a. not-le-of-lt (beyond 0x800000 132 top (ofBits binary32 b) (a .number) (rw (own-pattern (a .number)) (leb-false _ _ e))) (between-size a);
+    }
 
-  module _ (a : Element x) where
-    -- 2 ^ x accepts it
-    pub power-accepts : exp2.Accepts x
-    power-accepts = record { number = a .number; at-least = le-trans (a .at-least) (lit≤ tt); at-most = le-trans (a .at-most) (lit≤ tt) }
+module _ (x : Float) (a : Element x) where
+  -- 2 ^ x accepts it
+  pub power-accepts : exp2.Accepts x
+  power-accepts = record { number = a .number; at-least = le-trans (a .at-least) (lit≤ tt); at-most = le-trans (a .at-most) (lit≤ tt) }
 
-    -- the power in fixed point
-    pub power : FixedExp2 x (fixedDigits x) (fixedExponent x)
-    power = fixed x power-accepts
+  -- the power in fixed point
+  pub power : FixedExp2 x (fixedDigits x) (fixedExponent x)
+  power = fixed x power-accepts
 
-    pub exponent-low : 62 ≤ fixedExponent x
-    exponent-low = exponent-least x 64 (a .at-least)
+  pub exponent-low : 62 ≤ fixedExponent x
+  exponent-low = exponent-least x 64 (a .at-least)
 
-    pub exponent-high : fixedExponent x ≤ 190
-    exponent-high = exponent-most x 64 (a .at-most)
+  pub exponent-high : fixedExponent x ≤ 190
+  exponent-high = exponent-most x 64 (a .at-most)

@@ -13,8 +13,9 @@ use lib.Ieee.{binary32, ofBits}
 use Rattle.units.proofs.Naturals.{le-or-lt, pow-back, pow-split}
 use Rattle.units.proofs.Bits.{Is, put-positive}
 use Rattle.fixed.specs.Rounded.{Normal, nearestBits}
-use Rattle.fixed.proofs.Rounding.{unitsOf, near-most, near-least, whole-units, is-positive, units-order}
-use Rattle.weights.specs.Weight.{Scaling, AtMostOne, weightBits}
+use Rattle.fixed.proofs.Rounding.{unitsOf, near-most, near-least, whole-units, is-positive, units-order, bits-fit}
+use Rattle.weights.specs.Value.{unitBits}
+use Rattle.weights.specs.Weight.{Scaling, AtMostOne}
 
 -- the units of the weight
 unfoldable pub weightUnits : ℕ → ℕ → ℕ → ℕ
@@ -50,8 +51,8 @@ module _ (n E c : ℕ) (p : Placed n E c) where
     units-more = rw (lt-ltb c e more)
 
     -- the pattern is rounded
-    pub bits-more : weightBits n e c ≡ nearestBits n (e - c)
-    unfolding weightBits
+    pub bits-more : unitBits n e c ≡ nearestBits n (e - c)
+    unfolding unitBits
     bits-more = rw (lt-ltb c e more)
 
     exponent-in : E ≤ 12 + c
@@ -118,8 +119,8 @@ module _ (n E c : ℕ) (p : Placed n E c) where
     units-few = rw (le-ltb c e few)
 
     -- the pattern is cut off
-    pub bits-few : weightBits n e c ≡ S
-    unfolding weightBits
+    pub bits-few : unitBits n e c ≡ S
+    unfolding unitBits
     bits-few = rw (le-ltb c e few)
 
     -- over c again
@@ -173,10 +174,16 @@ module _ (n E c : ℕ) (p : Placed n E c) where
   ]
 
   -- the pattern is that of these units
-  pub weight-is : Is (ofBits binary32 (weightBits n e c)) false U
+  pub weight-is : Is (ofBits binary32 (unitBits n e c)) false U
   weight-is = elim (le-or-lt e c) [
     | inl h ↦ rw (bits-few h, units-few h) (rw (zero-mul, zero-add, pow-zero, mul-one) at (put-positive (S h) 0 (inl refl) (le-of-lt (few-units h)) (omega (arith, few-units h))))
     | inr h ↦ rw (bits-more h, units-more h) (is-positive n (e - c) (p .most) (normal h))
+  ]
+
+  pub pattern-in : unitBits n e c < 255 * 8388608
+  pattern-in = elim (le-or-lt e c) [
+    | inl h ↦ rw (bits-few h) (lt-of-lt-of-le (few-units h) (lit≤ tt))
+    | inr h ↦ rw (bits-more h) (bits-fit n (e - c) (p .most) (normal h))
   ]
 
 -- ---- order: a larger power, with no smaller exponent, has no smaller weight

@@ -1,3 +1,5 @@
+pub mod Lists
+pub mod Value
 pub mod Softmax
 pub mod Weight
 pub mod Asked

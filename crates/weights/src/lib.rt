@@ -1,54 +1,107 @@
 // Softmax, base two: the powers as whole numbers, one sum of them, one division, and one rounding for each output.
+// The list that is weighed is x; where x is empty, it is the floats whose patterns p holds, and they are weighed in place.
 
 ghost use mathlib.Core.Path.{_≡_};
-ghost use Prim.Native.Nat.{ℕ, _≤_, _<_, _^_};
+ghost use mathlib.Core.List.{map};
+ghost use Prim.Native.Nat.{ℕ, _-_, _≤_, _<_, _^_};
+ghost use lib.Count.{leadingZeros};
 ghost use lib.ListN.{length};
+ghost use lib.Ieee.{binary32, ofBits};
+ghost use Rattle.units.specs.Answers.{Ends, listBits};
+ghost use Rattle.units.specs.Tests.{Tells};
 ghost use Rattle.powers.specs.Fixed.{fixedExponent, fixedPower};
-ghost use Rattle.weights.specs.Softmax.{Element, Elements, Softmax2, at, sum};
-ghost use Rattle.weights.specs.Weight.{Tells, Largest, Aligned, Reciprocal, Inverse, Scaling, AtMostOne, Weighed, powerAt, weightOf};
+ghost use Rattle.weights.specs.Lists.{at, sum};
+ghost use Rattle.weights.specs.Softmax.{Element, Elements, floatsOf, Softmax2};
+ghost use Rattle.weights.specs.Value.{keyOf, patternOf, larger, topKey, powerAt, shareOf, shareAt, inverseOf, factorOf, placesOf, weightBits};
+ghost use Rattle.weights.specs.Weight.{sourceOf, Sized, IsJudged, Scaling, AtMostOne};
 
-// From -64 to 64, and no NaN.
-fn is_accepted(x: f32) -> bool
-    ensures { λ r. ⌜ Tells (Element x) r ⌝ }
+// The pattern of the element i; of a NaN one of its patterns.
+fn pattern(x: &[f32], p: &[u32], i: usize) -> u32
+    requires { ⌜ Sized (now x) (now p) × (i < length (now p)) ⌝ }
+    ensures { λ b. ⌜ ofBits binary32 b ≡ at (sourceOf (now (x .entry)) (now (p .entry))) i ⌝ }
 {
-    -64.0 <= x && x <= 64.0
+    if x.len() == 0 {
+        p[i]
+    } else {
+        fixed::bits_of(x[i])
+    }
 }
 
-// Is every element?
-fn all_accepted(x: &[f32]) -> bool
-    ensures { λ r. ⌜ Tells (Elements (now (x .entry))) r ⌝ }
+// The element i of a list that was judged.
+fn element(x: &[f32], p: &[u32], i: usize) -> f32
+    requires { ⌜ Sized (now x) (now p) × (i < length (now p)) × Element (at (sourceOf (now x) (now p)) i) ⌝ }
+    ensures { λ r. ⌜ r ≡ at (sourceOf (now (x .entry)) (now (p .entry))) i ⌝ }
 {
+    if x.len() == 0 {
+        f32::from_bits(p[i])
+    } else {
+        x[i]
+    }
+}
+
+// From -64 to 64: the pattern of the size tells, of a NaN too.
+fn is_accepted(b: u32) -> bool
+    ensures { λ r. ⌜ Tells (Element (ofBits binary32 b)) r ⌝ }
+{
+    b % 2147483648 <= 0x4280_0000
+}
+
+// A number in the order of the floats.
+fn key(b: u32) -> u32
+    ensures { λ k. ⌜ k ≡ keyOf b ⌝ }
+{
+    if b < 2147483648 {
+        b + 2147483648
+    } else {
+        4294967295 - b
+    }
+}
+
+// The pattern with that key.
+fn unlocked(k: u32) -> u32
+    ensures { λ b. ⌜ b ≡ patternOf k ⌝ }
+{
+    if k < 2147483648 {
+        4294967295 - k
+    } else {
+        k - 2147483648
+    }
+}
+
+fn larger_of(a: u32, b: u32) -> u32
+    ensures { λ m. ⌜ m ≡ larger a b ⌝ }
+{
+    if a < b { b } else { a }
+}
+
+struct Judged {
+    ok: bool,
+    top: u32,
+}
+
+// Is every element accepted, and what is the largest key?
+fn judge(x: &[f32], p: &[u32]) -> Judged
+    requires { ⌜ Sized (now x) (now p) × (length (now p) ≤ 1024) ⌝ }
+    ensures { λ t. ⌜ IsJudged (sourceOf (now (x .entry)) (now (p .entry))) (t .ok) (t .top) ⌝ }
+{
+    let n = p.len() as u32;
+    let mut top = 0;
     let mut i = 0;
-    while i < x.len() {
-        if !is_accepted(x[i]) {
-            return false;
+    while i < n {
+        let b = pattern(x, p, i as usize);
+        if !is_accepted(b) {
+            return Judged { ok: false, top };
         }
+        top = larger_of(top, key(b));
         i += 1;
     }
-    true
-}
-
-// The largest element.
-fn largest(x: &[f32]) -> f32
-    requires { ⌜ (0 < length (now x)) × Elements (now x) ⌝ }
-    ensures { λ r. ⌜ Largest (now (x .entry)) (length (now (x .entry))) r ⌝ }
-{
-    let mut m = x[0];
-    let mut i = 1;
-    while i < x.len() {
-        let v = x[i];
-        if m < v {
-            m = v;
-        }
-        i += 1;
-    }
-    m
+    Judged { ok: true, top }
 }
 
 // 2 to the power x in steps of 2^(e - 178), rounded up: what is left of its digits, and one step more.
 fn share(x: f32, e: u32) -> u64
     requires { ⌜ Element x × (fixedExponent x ≤ e) ⌝ }
-    ensures { λ s. ⌜ Aligned (fixedPower x) e 1 s ⌝ }
+    ensures { λ s. ⌜ s ≡ shareOf e x ⌝ }
 {
     let t = powers::fixed_exp2(x);
     if e - t.e < 64 {
@@ -59,91 +112,110 @@ fn share(x: f32, e: u32) -> u64
 }
 
 // The sum of all of them.
-fn total(x: &[f32], e: u32) -> u64
-    requires { ⌜ Elements (now x) × (length (now x) ≤ 1024) × ((i : ℕ) → i < length (now x) → fixedExponent (at (now x) i) ≤ e) ⌝ }
-    ensures { λ s. ⌜ Aligned (sum (powerAt (now (x .entry))) (length (now (x .entry)))) e (length (now (x .entry))) s ⌝ }
+fn total(x: &[f32], p: &[u32], e: u32) -> u64
+    requires { ⌜ Sized (now x) (now p) × (length (now p) ≤ 1024) × Elements (sourceOf (now x) (now p)) × ((i : ℕ) → i < length (now p) → fixedExponent (at (sourceOf (now x) (now p)) i) ≤ e) ⌝ }
+    ensures { λ s. ⌜ s ≡ sum (shareAt e (sourceOf (now (x .entry)) (now (p .entry)))) (length (now (p .entry))) ⌝ }
 {
-    let n = x.len();
+    let n = p.len() as u32;
     let mut s = 0;
-    let mut i = 0;
-    while i < n {
-        s += share(x[i], e);
-        i += 1;
+    let mut j = 0;
+    while j < n {
+        s += share(element(x, p, j as usize), e);
+        j += 1;
     }
     s
 }
 
 // What each power is multiplied by: r * 2^-c, up to a constant.
 struct Factor {
-    r: u64,
+    r: u32,
     c: u32,
 }
 
 // The reciprocal of a sum in steps of 2^(e - 178), rounded down: 31 digits of it, by one division.
 fn reciprocal(s: u64, e: u32) -> Factor
-    requires { ⌜ (2 ^ 52 ≤ s) × (62 ≤ e) × (e ≤ 190) ⌝ }
-    ensures { λ t. ⌜ Scaling (t .r) (t .c) × Reciprocal s e (t .r) (t .c) ⌝ }
+    requires { ⌜ (2 ^ 52 ≤ s) × (62 ≤ e) ⌝ }
+    ensures { λ t. ⌜ (t .r ≡ inverseOf s (leadingZeros 64 s)) × (t .c ≡ e - leadingZeros 64 s) ⌝ }
 {
     let z = u64::leading_zeros(s);
     Factor {
-        r: 4611686018427387904 / ((s << z) / 4294967296 + 1),
+        r: fixed::division::quotient_of_next(4611686018427387904, ((s << z) / 4294967296) as u32),
         c: e - z,
     }
 }
 
-// One over the sum of the powers of all elements.
-fn scale(x: &[f32]) -> Factor
-    requires { ⌜ (0 < length (now x)) × (length (now x) ≤ 1024) × Elements (now x) ⌝ }
-    ensures { λ s. ⌜ Scaling (s .r) (s .c) × Inverse (sum (powerAt (now (x .entry))) (length (now (x .entry)))) (s .r) (s .c) ⌝ }
+// One over the sum of the powers of all elements, the largest of which has the key k.
+fn scale(x: &[f32], p: &[u32], k: u32) -> Factor
+    requires { ⌜ Sized (now x) (now p) × (0 < length (now p)) × (length (now p) ≤ 1024) × Elements (sourceOf (now x) (now p)) × (k ≡ topKey (sourceOf (now x) (now p))) ⌝ }
+    ensures { λ t. ⌜ (t .r ≡ factorOf (sourceOf (now (x .entry)) (now (p .entry)))) × (t .c ≡ placesOf (sourceOf (now (x .entry)) (now (p .entry)))) ⌝ }
 {
-    let t = powers::fixed_exp2(largest(x));
-    reciprocal(total(x, t.e), t.e)
+    let t = powers::fixed_exp2(f32::from_bits(unlocked(k)));
+    reciprocal(total(x, p, t.e), t.e)
 }
 
-// The power of x times the scale, n * 2^(e - 40 - c) least floats, rounded once; below 2^-125 there are 24 digits at most, and the rest is cut off.
-fn weight(x: f32, r: u64, c: u32) -> f32
+// The pattern of the power of x times the scale, n * 2^(e - 40 - c) least floats, rounded once; below 2^-125 there are 24 digits at most, and the rest is cut off.
+fn weight(x: f32, r: u32, c: u32) -> u32
     requires { ⌜ Element x × Scaling r c × AtMostOne (fixedPower x) r c ⌝ }
-    ensures { λ p. ⌜ p ≡ weightOf r c x ⌝ }
+    ensures { λ b. ⌜ b ≡ weightBits r c x ⌝ }
 {
     let t = powers::fixed_exp2(x);
-    let n = t.r * r;
+    let n = t.r * (r as u64);
     let e = t.e + 115;
     if c < e {
-        f32::from_bits(fixed::nearest_bits(n, e - c))
+        fixed::nearest_bits(n, e - c)
     } else {
-        f32::from_bits((n >> (c + 40 - e)) as u32)
+        (n >> (c + 40 - e)) as u32
     }
 }
 
 // All of them.
-fn fill(x: &[f32], p: &mut [f32], r: u64, c: u32)
-    requires { ⌜ (length (now x) ≡ length (now p)) × Elements (now x) × Scaling r c × AtMostOne (sum (powerAt (now x)) (length (now x))) r c ⌝ }
-    ensures { λ _. ⌜ Weighed (now (x .entry)) r c (now (p .exit)) ⌝ }
+fn fill(x: &[f32], p: &mut [u32], r: u32, c: u32)
+    requires { ⌜ Sized (now x) (now p) × (length (now p) ≤ 1024) × Elements (sourceOf (now x) (now p)) × Scaling r c × AtMostOne (sum (powerAt (sourceOf (now x) (now p))) (length (sourceOf (now x) (now p)))) r c ⌝ }
+    ensures { λ _. ⌜ now (p .exit) ≡ map (weightBits r c) (sourceOf (now (x .entry)) (now (p .entry))) ⌝ }
 {
-    let mut i = 0;
-    while i < x.len() {
-        p[i] = weight(x[i], r, c);
-        i += 1;
+    let n = p.len() as u32;
+    let mut k = 0;
+    while k < n {
+        let i = k as usize;
+        p[i] = weight(element(x, p, i), r, c);
+        k += 1;
     }
 }
 
+// The weights of the list, where its length and its elements are accepted; code 2 or 1 and nothing written where they are not.
+fn weigh(x: &[f32], p: &mut [u32]) -> u32
+    requires { ⌜ Sized (now x) (now p) ⌝ }
+    ensures { λ code. ⌜ Ends listBits (Softmax2 (sourceOf (now (x .entry)) (now (p .entry))) (length (now (p .entry)))) code (now (p .entry)) (now (p .exit)) ⌝ }
+{
+    if p.len() == 0 {
+        return 2;
+    }
+    if 1024 < p.len() {
+        return 2;
+    }
+    let j = judge(x, p);
+    if !j.ok {
+        return 1;
+    }
+    let s = scale(x, p, j.top);
+    fill(x, p, s.r, s.c);
+    0
+}
+
 // 2 to the power of each element over the sum of all these powers; code 2 or 1 and nothing written where lengths or an element are refused.
-pub fn softmax2(x: &[f32], p: &mut [f32]) -> u32
-    ensures { λ code. ⌜ Softmax2 (now (x .entry)) code (now (p .entry)) (now (p .exit)) ⌝ }
+pub fn softmax2(x: &[f32], p: &mut [u32]) -> u32
+    ensures { λ code. ⌜ Ends listBits (Softmax2 (now (x .entry)) (length (now (p .entry)))) code (now (p .entry)) (now (p .exit)) ⌝ }
 {
     if x.len() != p.len() {
         return 2;
     }
-    if x.len() == 0 {
-        return 2;
-    }
-    if 1024 < x.len() {
-        return 2;
-    }
-    if !all_accepted(x) {
-        return 1;
-    }
-    let s = scale(x);
-    fill(x, p, s.r, s.c);
-    0
+    weigh(x, p)
+}
+
+// The same of the floats whose patterns the list holds, in their place.
+pub fn softmax2_in_place(p: &mut [u32]) -> u32
+    ensures { λ code. ⌜ Ends listBits (Softmax2 (floatsOf (now (p .entry))) (length (now (p .entry)))) code (now (p .entry)) (now (p .exit)) ⌝ }
+{
+    let none = [0.0f32; 1];
+    weigh(&none[..0], p)
 }

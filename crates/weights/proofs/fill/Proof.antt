@@ -1,54 +1,76 @@
--- `weights::fill` meets its contract. The loop's invariant: the outputs written are the weights of the elements passed. Assumes nothing.
-use mathlib.Core.Path.{_≡_, refl, sym, _∙_}
+-- `weights::fill` meets its contract. The loop's invariant: the patterns written are those of the elements passed, and the rest is as it was. Assumes nothing.
+use mathlib.Core.Path.{_≡_, refl, sym, ap, _∙_, subst}
+use mathlib.Core.List.{List}
 use Prim.Native.Nat.{ℕ, _-_, _≤_, _<_}
-use native.Mathlib.Nat.{le-trans, lt-of-lt-of-le, le-of-eq, mul-le-mul-right, ne-of-lt}
+use native.Mathlib.Nat.{le-refl, le-trans, lt-of-lt-of-le, le-of-eq, mul-le-mul-right, ne-of-lt, ne-of-gt}
 use native.Mathlib.Omega.{arith}
-use lib.ListN.{length, set, length-set}
+use lib.ListN.{length, getD, set, length-set}
 use lib.Seq.{getD-set-same, getD-set-other}
-use lib.Ieee.{nan}
+use lib.Ieee.{Float, nan}
 use borrow.Author.Count.{below-none, below-more}
-use borrow.Author.Needs.{scaled-fits}
-use Rattle.weights.specs.Softmax.{at}
-use Rattle.weights.specs.Weight.{powerAt, weightOf}
-use Rattle.weights.proofs.Families.{member}
+use Rattle.weights.specs.Lists.{at}
+use Rattle.weights.specs.Softmax.{Element}
+use Rattle.weights.specs.Value.{powerAt, weightBits}
+use Rattle.weights.specs.Weight.{sourceOf}
+use Rattle.weights.proofs.Families.{is-map, member}
+use Rattle.weights.proofs.Source.{sized-still, still-at}
 use Rattle.weights.proofs.fill.Statement.{statement}
 use Rattle.weights.proofs.fill.Tie as tie
 
 abbrev Inv-loop : tie.InvT-loop
-Inv-loop x p₀ r c i₀ p i = (i ≤ length x) × (length p ≡ length p₀) × ((k : ℕ) → k < i → at p k ≡ weightOf r c (at x k))
+Inv-loop x p₀ r c n k₀ p k = (k ≤ n) × (length p ≡ length p₀) × ((i : ℕ) → i < k → getD p i 0 ≡ weightBits r c (at (sourceOf x p₀) i)) × ((i : ℕ) → k ≤ i → getD p i 0 ≡ getD p₀ i 0)
 
 abbrev μ-loop : tie.MeasureT-loop
-μ-loop x p₀ r c i₀ p i = length x - i
+μ-loop x p₀ r c n k₀ p k = n - k
+
+cast-n : tie.Need-cast-n Inv-loop μ-loop
+cast-n c = omega arith
 
 loop-holds : tie.Need-loop-holds Inv-loop μ-loop
-loop-holds c = (omega arith, refl, below-none _)
+loop-holds c = (omega arith, refl, below-none _, λ k h. refl)
 
-mul-weight : tie.Need-mul-weight Inv-loop μ-loop
-mul-weight c = scaled-fits (c .before .loop .i) (length (c .before .before .before .before .args .x .now)) 4 (c .loop-test .taken) (c .before .before .before .before .good .0 .1)
+cast-i : tie.Need-cast-i Inv-loop μ-loop
+cast-i c = omega arith
 
-shared-slice-read-weight : tie.Need-shared-slice-read-weight Inv-loop μ-loop
-shared-slice-read-weight c = c .before .loop-test .taken
+-- the list as it was given, and its element at i, which is not yet written over
+abbrev xs : tie.Start Inv-loop μ-loop → List Float
+xs c = sourceOf (c .args .x .now) (c .args .p .now)
+
+within : (c : tie.In-loop Inv-loop μ-loop) → c .before .loop .k < length (xs (c .before .before .before .before))
+within c = lt-of-lt-of-le (c .loop-test .taken) (le-of-eq (sym (c .before .before .before .before .pre .0)))
+
+accepted : (c : tie.In-loop Inv-loop μ-loop) → Element (at (xs (c .before .before .before .before)) (c .before .loop .k))
+accepted c = c .before .before .before .before .pre .2 .each (c .before .loop .k) (within c)
+
+unwritten : (c : tie.In-loop Inv-loop μ-loop) → at (sourceOf (c .before .before .before .before .args .x .now) (c .before .loop .p)) (c .before .loop .k) ≡ at (xs (c .before .before .before .before)) (c .before .loop .k)
+unwritten c =
+    let start = c .before .before .before .before in
+    let inv = c .before .loop .inv in
+    still-at (start .args .x .now) (start .args .p .now) (c .before .loop .p) (inv .1) (c .before .loop .k) (c .loop-test .taken) (inv .3 (c .before .loop .k) (le-refl _))
+
+in-list : (c : tie.In-loop Inv-loop μ-loop) → c .before .loop .k < length (c .before .loop .p)
+in-list c = lt-of-lt-of-le (c .loop-test .taken) (le-of-eq (sym (c .before .loop .inv .1)))
+
+element-requires : tie.Need-element-requires Inv-loop μ-loop
+element-requires c κs =
+    let l = c .before in
+    let start = l .before .before .before .before in
+    (sized-still (start .args .x .now) (start .args .p .now) (l .before .loop .p) (l .before .loop .inv .1) (start .pre .0), in-list l, subst Element (sym (unwritten l)) (accepted l))
 
 weight-requires : tie.Need-weight-requires Inv-loop μ-loop
 weight-requires c κs =
     let l = c .before .before in
-    let start = l .before .before .before in
-    let x = start .args .x .now in
-    let more = c .before .loop-test .taken in
-    (start .pre .1 .each (l .loop .i) more, start .pre .2, le-trans (mul-le-mul-right (start .args .r) (member (powerAt x) (length x) (l .loop .i) more)) (start .pre .3))
-
--- the output is as long as the input
-in-output : (c : tie.In-loop Inv-loop μ-loop) → c .before .loop .i < length (c .before .loop .p)
-in-output c = lt-of-lt-of-le (c .loop-test .taken) (le-of-eq (c .before .before .before .before .pre .0 ∙ sym (c .before .loop .inv .1)))
+    let start = l .before .before .before .before in
+    rw (c .element .ensures ∙ unwritten l) (accepted l, start .pre .3, le-trans (mul-le-mul-right (start .args .r) (member (powerAt (xs start)) (length (xs start)) (l .before .loop .k) (within l))) (start .pre .4))
 
 mul-p : tie.Need-mul-p Inv-loop μ-loop
-mul-p c = scaled-fits (c .before .before .before .loop .i) (length (c .before .before .before .before .before .before .args .x .now)) 4 (c .before .before .loop-test .taken) (c .before .before .before .before .before .before .good .0 .1)
+mul-p c = omega (arith, c .before .before .before .loop-test .taken, c .before .before .before .before .before .before .before .pre .1)
 
 slice-write-p : tie.Need-slice-write-p Inv-loop μ-loop
-slice-write-p c = in-output (c .before .before)
+slice-write-p c = in-list (c .before .before .before)
 
-add-i : tie.Need-add-i Inv-loop μ-loop
-add-i c = omega arith
+add-k : tie.Need-add-k Inv-loop μ-loop
+add-k c = omega arith
 
 loop-less : tie.Need-loop-less Inv-loop μ-loop
 loop-less c = omega arith
@@ -56,12 +78,17 @@ loop-less c = omega arith
 loop-again : tie.Need-loop-again Inv-loop μ-loop
 loop-again c =
     let l = c .before .before .before in
-    let i = l .loop .i in (
-      omega arith,
-      length-set (l .loop .p) i (c .weight .result) ∙ l .loop .inv .1,
-      below-more (λ k. at (set (l .loop .p) i (c .weight .result)) k ≡ weightOf (l .before .before .before .args .r) (l .before .before .before .args .c) (at (l .before .before .before .args .x .now) k)) i
-          (λ k h. getD-set-other (l .loop .p) i k (c .weight .result) nan (ne-of-lt h) ∙ l .loop .inv .2 k h)
-          (getD-set-same (l .loop .p) i (c .weight .result) nan (in-output (c .before .before)) ∙ c .weight .ensures),
+    let start = l .before .before .before .before in
+    let inv = l .before .loop .inv in
+    let p = l .before .loop .p in
+    let i = l .before .loop .k in
+    let b = c .weight .result in (
+      omega (arith, l .loop-test .taken),
+      length-set p i b ∙ inv .1,
+      below-more (λ k. getD (set p i b) k 0 ≡ weightBits (start .args .r) (start .args .c) (at (xs start) k)) i
+          (λ k h. getD-set-other p i k b 0 (ne-of-lt h) ∙ inv .2 k h)
+          (getD-set-same p i b 0 (in-list l) ∙ c .weight .ensures ∙ ap (weightBits (start .args .r) (start .args .c)) (c .before .element .ensures ∙ unwritten l)),
+      λ k h. getD-set-other p i k b 0 (ne-of-gt (omega arith)) ∙ inv .3 k (omega arith),
     )
 
 same-length : tie.Need-same-length Inv-loop μ-loop
@@ -69,9 +96,9 @@ same-length c = c .before .loop .inv .1
 
 returns : tie.Need-returns Inv-loop μ-loop
 returns c =
-    let l = c .before in
-    record { as-many = l .loop .inv .1 ∙ sym (l .before .before .before .pre .0); each = λ i h. l .loop .inv .2 i (lt-of-lt-of-le h (c .loop-test .left)) }
+    let start = c .before .before .before .before in
+    let inv = c .before .loop .inv in
+    is-map (weightBits (start .args .r) (start .args .c)) nan 0 (xs start) (c .before .loop .p) (inv .1 ∙ sym (start .pre .0)) (λ i h. inv .2 i (omega (arith, start .pre .0, c .loop-test .left)))
 
 pub fill-spec : {M : Type 1} → statement M
-fill-spec =
-    tie.close (tie.spec Inv-loop μ-loop loop-holds mul-weight shared-slice-read-weight weight-requires mul-p slice-write-p add-i loop-less loop-again same-length returns)
+fill-spec = tie.close (tie.spec Inv-loop μ-loop cast-n loop-holds cast-i element-requires weight-requires mul-p slice-write-p add-k loop-less loop-again same-length returns)

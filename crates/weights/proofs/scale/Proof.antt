@@ -1,61 +1,73 @@
--- `weights::scale` meets its contract: the largest element's exponent is the steps' of the sum, and the sum's reciprocal that of the powers. Assumes nothing.
+-- `weights::scale` meets its contract: the largest element's exponent is the steps' of the sum. Assumes nothing.
 use borrow.Author.Needs.{needs}
-use mathlib.Core.Path.{sym, ap, ap₂, _∙_, subst}
-use Prim.Native.Nat.{ℕ, _*_, _^_, _≤_}
-use native.Mathlib.Nat.{le-trans, le-of-eq, mul-le-mul-right}
+use mathlib.Core.Path.{_≡_, sym, ap, ap₂, _∙_, subst}
+use mathlib.Core.List.{List}
+use Prim.Native.Nat.{ℕ, _-_, _<_}
+use native.Mathlib.Nat.{le-trans, le-of-eq, lt-of-lt-of-le}
+use lib.Count.{leadingZeros}
 use lib.ListN.{length}
-use Rattle.powers.specs.Fixed.{fixedPower}
+use lib.Ieee.{Float, binary32, ofBits}
+use Rattle.powers.specs.Fixed.{fixedExponent}
+use Rattle.weights.specs.Lists.{sum}
 use Rattle.weights.specs.Softmax.{Element}
-use Rattle.weights.specs.Weight.{powerAt}
-use Rattle.weights.proofs.Range.{power-accepts, exponent-low, exponent-high}
-use Rattle.weights.proofs.Families.{member}
-use Rattle.weights.proofs.Aligning.{aligned-many}
-use Rattle.weights.proofs.Inverting.{inverse-of}
+use Rattle.weights.specs.Value.{patternOf, topOf, topExponent, shareAt, totalOf, inverseOf, factorOf, placesOf}
+use Rattle.weights.specs.Weight.{sourceOf}
+use Rattle.weights.proofs.Range.{power-accepts, not-nan}
+use Rattle.weights.proofs.Scaled.{top-element, top-low, top-most, many}
 use Rattle.weights.proofs.scale.Statement.{statement}
 use Rattle.weights.proofs.scale.Tie as tie
 
-largest-requires : tie.Need-largest-requires
-largest-requires c κs = search needs
+abbrev xs : tie.Start → List Float
+xs c = sourceOf (c .args .x .now) (c .args .p .now)
 
--- the largest element is one
-top : (c : tie.After-largest) → Element (c .largest .result)
-top c = let l = c .largest .ensures in subst Element (l .there) (c .before .before .pre .2 .each (l .place) (l .within))
+some : (c : tie.Start) → 0 < length (xs c)
+some c = lt-of-lt-of-le (c .pre .1) (le-of-eq (sym (c .pre .0)))
 
--- and its power is among those of the sum
-many : (c : tie.After-total) → 2 ^ 52 ≤ c .total .result
-many c =
-    let t = c .before .fixed-exp2 .ensures in
-    let l = c .before .before .largest .ensures in
-    let x = c .before .before .before .before .args .x .now in
-    aligned-many _ _ _ _ (c .total .ensures)
-    (le-trans (mul-le-mul-right (2 ^ c .before .fixed-exp2 .result .e) (t .least))
-    (le-trans (le-of-eq (ap₂ (λ (r e : ℕ). r * 2 ^ e) (t .digits) (t .exponent) ∙ ap fixedPower (sym (l .there)))) (member (powerAt x) (length x) (l .place) (l .within))))
+-- the pattern is the largest element's
+top : (c : tie.After-unlocked) → ofBits binary32 (c .unlocked .result) ≡ topOf (xs (c .before .before .before))
+unfolding topOf
+top c = ap (ofBits binary32) (c .unlocked .ensures ∙ ap patternOf (c .before .before .before .pre .4))
+
+largest : (c : tie.After-unlocked) → Element (ofBits binary32 (c .unlocked .result))
+largest c = let start = c .before .before .before in subst Element (sym (top c)) (top-element (xs start) (start .pre .3) (some start))
+
+-- its exponent
+exponent : (c : tie.After-fixed-exp2) → c .fixed-exp2 .result .e ≡ topExponent (xs (c .before .before .before .before))
+exponent c = c .fixed-exp2 .ensures .whole-part ∙ ap fixedExponent (top (c .before))
+
+-- and the sum
+sum-is : (c : tie.After-total) → c .total .result ≡ totalOf (xs (c .before .before .before .before .before))
+unfolding totalOf
+sum-is c =
+    let start = c .before .before .before .before .before in
+    c .total .ensures ∙ ap₂ (λ (e n : ℕ). sum (shareAt e (xs start)) n) (exponent (c .before)) (sym (start .pre .0))
+
+unlocked-requires : tie.Need-unlocked-requires
+unlocked-requires c κs = search needs
+
+float-from-bits-fixed-exp2 : tie.Need-float-from-bits-fixed-exp2
+float-from-bits-fixed-exp2 c = not-nan (c .unlocked .result) (largest c .number)
 
 fixed-exp2-requires : tie.Need-fixed-exp2-requires
-fixed-exp2-requires c κs = power-accepts (c .largest .result) (top c)
+fixed-exp2-requires c κs = power-accepts (ofBits binary32 (c .unlocked .result)) (largest c)
 
 total-requires : tie.Need-total-requires
 total-requires c κs =
-    let l = c .before in
-    let start = l .before .before in
-    let x = start .args .x .now in
-    (start .pre .2, start .pre .1, λ i h. c .fixed-exp2 .ensures .exponents _ (power-accepts _ (start .pre .2 .each i h)) (l .largest .ensures .most i h))
+    let start = c .before .before .before .before in
+    (start .pre .0, start .pre .2, start .pre .3, λ i h. le-trans (top-most (xs start) (start .pre .3) (some start) i (lt-of-lt-of-le h (le-of-eq (sym (start .pre .0))))) (le-of-eq (sym (exponent c))))
 
 reciprocal-requires : tie.Need-reciprocal-requires
 reciprocal-requires c κs =
-    let t = c .before in
-    let m = t .before .largest .result in (
-      many c,
-      le-trans (exponent-low m (top (t .before))) (le-of-eq (sym (t .fixed-exp2 .ensures .exponent))),
-      le-trans (le-of-eq (t .fixed-exp2 .ensures .exponent)) (exponent-high m (top (t .before))),
-    )
+    let start = c .before .before .before .before .before in
+    (le-trans (many (xs start) (start .pre .3) (some start)) (le-of-eq (sym (sum-is c))), le-trans (top-low (xs start) (start .pre .3) (some start)) (le-of-eq (sym (exponent (c .before)))))
 
 returns : tie.Need-returns
+unfolding factorOf placesOf
 returns c =
-    let t = c .before in
-    (c .reciprocal .ensures .0, inverse-of _ _ _ _ _ _ (t .total .ensures) (c .reciprocal .ensures .1) (many t) (t .before .before .before .before .pre .1))
+    let t = c .before in (
+      c .reciprocal .ensures .0 ∙ ap (λ (s : ℕ). inverseOf s (leadingZeros 64 s)) (sum-is t),
+      c .reciprocal .ensures .1 ∙ ap₂ (λ (e s : ℕ). e - leadingZeros 64 s) (exponent (t .before)) (sum-is t),
+    )
 
 pub scale-spec : {M : Type 1} → statement M
-scale-spec =
-    tie.close
-    (tie.spec largest-requires fixed-exp2-requires total-requires reciprocal-requires returns)
+scale-spec = tie.close (tie.spec unlocked-requires float-from-bits-fixed-exp2 fixed-exp2-requires total-requires reciprocal-requires returns)

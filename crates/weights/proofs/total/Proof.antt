@@ -1,70 +1,78 @@
--- `weights::total` meets its contract. The loop's invariant: s is the sum of the powers passed, with as many steps too many at most. Assumes nothing.
-use mathlib.Core.Path.{sym, subst}
-use Prim.Native.Nat.{ℕ, _+_, _-_, _*_, _^_, _≤_, _<_}
+-- `weights::total` meets its contract. The loop's invariant: s is the sum of the shares passed. Assumes nothing.
+use mathlib.Core.Path.{_≡_, refl, ap, ap₂, _∙_}
+use mathlib.Core.List.{List}
+use Prim.Native.Nat.{ℕ, _+_, _-_, _≤_, _<_}
 use native.Mathlib.Nat.{le-antisymm}
 use native.Mathlib.Numerals.{add-one}
 use native.Mathlib.Omega.{arith}
-use mir.Syntax.{w64}
-use mir.Val.{Fits}
 use lib.ListN.{length}
-use borrow.Author.Needs.{scaled-fits}
-use Rattle.weights.specs.Softmax.{sum}
-use Rattle.weights.specs.Weight.{Aligned, powerAt}
-use Rattle.weights.proofs.Aligning.{aligned-none, aligned-more}
+use lib.Ieee.{Float}
+use Rattle.powers.specs.Fixed.{fixedExponent}
+use Rattle.weights.specs.Lists.{at, sum}
+use Rattle.weights.specs.Softmax.{Element}
+use Rattle.weights.specs.Value.{shareOf, shareAt}
+use Rattle.weights.specs.Weight.{sourceOf}
+use Rattle.weights.proofs.Aligning.{sum-fits}
 use Rattle.weights.proofs.total.Statement.{statement}
 use Rattle.weights.proofs.total.Tie as tie
 
 abbrev Inv-loop : tie.InvT-loop
-Inv-loop x e n₀ s₀ i₀ s i = (i ≤ length x) × Aligned (sum (powerAt x) i) e i s
+Inv-loop x p e n s₀ j₀ s j = (j ≤ n) × (s ≡ sum (shareAt e (sourceOf x p)) j)
 
 abbrev μ-loop : tie.MeasureT-loop
-μ-loop x e n₀ s₀ i₀ s i = length x - i
+μ-loop x p e n s₀ j₀ s j = n - j
+
+-- the list, and what is known of its elements
+abbrev xs : tie.Start Inv-loop μ-loop → List Float
+xs c = sourceOf (c .args .x .now) (c .args .p .now)
+
+each : (c : tie.Start Inv-loop μ-loop) (i : ℕ) → i < length (c .args .p .now) → Element (at (xs c) i) × (fixedExponent (at (xs c) i) ≤ c .args .e)
+each c i h = (c .pre .2 .each i (omega (arith, c .pre .0)), c .pre .3 i h)
+
+cast-n : tie.Need-cast-n Inv-loop μ-loop
+cast-n c = omega arith
 
 loop-holds : tie.Need-loop-holds Inv-loop μ-loop
 unfolding sum
-loop-holds c = (omega arith, aligned-none (c .before .args .e))
+loop-holds c = (omega arith, refl)
 
-mul-share : tie.Need-mul-share Inv-loop μ-loop
-mul-share c = scaled-fits _ (length (c .before .before .before .args .x .now)) 4 (omega (arith, c .loop-test .taken)) (c .before .before .before .good .0 .1)
+cast-element : tie.Need-cast-element Inv-loop μ-loop
+cast-element c = omega arith
 
-shared-slice-read-share : tie.Need-shared-slice-read-share Inv-loop μ-loop
-shared-slice-read-share c = omega (arith, c .before .loop-test .taken)
+element-requires : tie.Need-element-requires Inv-loop μ-loop
+element-requires c κs =
+    let start = c .before .before .before .before in
+    (start .pre .0, c .loop-test .taken, each start (c .before .loop .j) (c .loop-test .taken) .0)
 
 share-requires : tie.Need-share-requires Inv-loop μ-loop
-share-requires c κs =
-    let l = c .before .before in
-    (l .before .before .pre .0 .each _ (omega (arith, c .before .loop-test .taken)), l .before .before .pre .2 _ (omega (arith, c .before .loop-test .taken)))
+share-requires c κs = rw (c .element .ensures) (each (c .before .before .before .before .before) (c .before .before .loop .j) (c .before .loop-test .taken))
 
--- 1,024 of them fit a word
-room : (s s′ i n : ℕ) → s ≤ i * (2 ^ 53 + 1) → s′ ≤ 1 * (2 ^ 53 + 1) → i < n → n ≤ 1024 → Fits w64 (s + s′)
-room s s′ i n h g l k = omega arith
+-- one more
+next : (c : tie.After-share Inv-loop μ-loop) → c .before .before .before .loop .s + c .share .result ≡ sum (shareAt (c .before .before .before .before .before .before .args .e) (xs (c .before .before .before .before .before .before))) (c .before .before .before .loop .j + 1)
+unfolding sum
+next c =
+    let l = c .before .before .before in
+    rw (add-one (l .loop .j)) (ap₂ (λ (a b : ℕ). a + b) (l .loop .inv .1) (c .share .ensures ∙ ap (shareOf (l .before .before .before .args .e)) (c .before .element .ensures)))
 
 add-s : tie.Need-add-s Inv-loop μ-loop
 add-s c =
     let l = c .before .before .before in
-    room (l .loop .s) (c .share .result) (l .loop .i) (length (l .before .before .args .x .now)) (l .loop .inv .1 .small) (c .share .ensures .small) (omega (arith, c .before .before .loop-test .taken)) (l .before .before .pre .1)
+    let start = l .before .before .before in
+    record { fits = rw (next c) (sum-fits (xs start) (start .args .e) (l .loop .j + 1) (omega (arith, c .before .before .loop-test .taken, start .pre .1)) (λ i h. each start i (omega (arith, c .before .before .loop-test .taken)))) }
 
-add-i : tie.Need-add-i Inv-loop μ-loop
-add-i c = omega arith
+add-j : tie.Need-add-j Inv-loop μ-loop
+add-j c = omega arith
 
 loop-less : tie.Need-loop-less Inv-loop μ-loop
 loop-less c = omega arith
 
 loop-again : tie.Need-loop-again Inv-loop μ-loop
-unfolding sum
-loop-again c =
-    let l = c .before .before .before in
-    let x = l .before .before .args .x .now in (
-      omega arith,
-      subst (λ (n : ℕ). Aligned (sum (powerAt x) n) (l .before .before .args .e) (l .loop .i + 1) (l .loop .s + c .share .result)) (sym (add-one (l .loop .i)))
-          (aligned-more (sum (powerAt x) (l .loop .i)) (powerAt x (l .loop .i)) (l .before .before .args .e) (l .loop .i) (l .loop .s) (c .share .result) (l .loop .inv .1) (c .share .ensures)),
-    )
+loop-again c = (omega (arith, c .before .before .loop-test .taken), next c)
 
 returns : tie.Need-returns Inv-loop μ-loop
 returns c =
-    let x = c .before .before .before .args .x .now in
-    subst (λ (n : ℕ). Aligned (sum (powerAt x) n) (c .before .before .before .args .e) n (c .before .loop .s)) (le-antisymm (c .before .loop .inv .0) (c .loop-test .left)) (c .before .loop .inv .1)
+    let start = c .before .before .before .before in
+    c .before .loop .inv .1 ∙ ap (sum (shareAt (start .args .e) (xs start))) (le-antisymm (c .before .loop .inv .0) (c .loop-test .left))
 
 pub total-spec : {M : Type 1} → statement M
-total-spec =
-    tie.close (tie.spec Inv-loop μ-loop loop-holds mul-share shared-slice-read-share share-requires add-s add-i loop-less loop-again returns)
+total-spec = tie.close (tie.spec Inv-loop μ-loop cast-n loop-holds cast-element element-requires share-requires add-s add-j loop-less loop-again returns)

@@ -1,16 +1,12 @@
 -- `weights::weight` meets its contract: its pattern is the one that `Rounding` speaks of. Assumes nothing.
-use mathlib.Core.Path.{_≡_, sym, ap, ap₂, _∙_, subst}
+use mathlib.Core.Path.{_≡_, sym, ap₂, _∙_, subst}
 use Prim.Native.Nat.{ℕ, _+_, _-_, _*_, _^_, _≤_, _<_}
-use native.Mathlib.Nat.{le-trans, le-of-eq, le-of-lt, lt-of-le-of-lt, lt-of-lt-of-le}
+use native.Mathlib.Nat.{le-trans, le-of-eq, le-of-lt}
 use native.Mathlib.Omega.{arith}
 use mir.Syntax.{w32, w64}
 use mir.Val.{Fits}
-use lib.Dec.{lit≤}
-use lib.Ieee.{binary32, ofBits}
-use Rattle.units.proofs.Bits.{no-nan-positive}
-use Rattle.fixed.proofs.Rounding as rounding
-use Rattle.powers.specs.Fixed.{fixedDigits, fixedExponent}
-use Rattle.weights.specs.Weight.{AtMostOne, weightBits, weightOf}
+use Rattle.weights.specs.Value.{unitBits, weightBits}
+use Rattle.weights.specs.Weight.{AtMostOne}
 use Rattle.weights.proofs.Range.{power-accepts, exponent-low, exponent-high}
 use Rattle.weights.proofs.Rounding.{Placed, placed, normal, bits-more, bits-few, few-units}
 use Rattle.weights.proofs.weight.Statement.{statement}
@@ -21,21 +17,22 @@ fixed-exp2-requires c κs = power-accepts (c .args .x) (c .pre .0)
 
 -- the exponent's range
 low : (c : tie.After-fixed-exp2) → 62 ≤ c .fixed-exp2 .result .e
-low c = le-trans (exponent-low (c .before .args .x) (c .before .pre .0)) (le-of-eq (sym (c .fixed-exp2 .ensures .exponent)))
+low c = le-trans (exponent-low (c .before .args .x) (c .before .pre .0)) (le-of-eq (sym (c .fixed-exp2 .ensures .whole-part)))
 
 high : (c : tie.After-fixed-exp2) → c .fixed-exp2 .result .e ≤ 190
-high c = le-trans (le-of-eq (c .fixed-exp2 .ensures .exponent)) (exponent-high (c .before .args .x) (c .before .pre .0))
+high c = le-trans (le-of-eq (c .fixed-exp2 .ensures .whole-part)) (exponent-high (c .before .args .x) (c .before .pre .0))
 
 -- the product has 63 or 64 digits
 digits : (c : tie.After-fixed-exp2) → Placed (c .fixed-exp2 .result .r * c .before .args .r) (c .fixed-exp2 .result .e) (c .before .args .c)
 digits c =
     let t = c .fixed-exp2 .ensures in
     placed (c .fixed-exp2 .result .r) (c .fixed-exp2 .result .e) (c .before .args .r) (c .before .args .c) (t .least) (t .most) (c .before .pre .1)
-    (subst (λ (p : ℕ). AtMostOne p (c .before .args .r) (c .before .args .c)) (sym (ap₂ (λ (r e : ℕ). r * 2 ^ e) (t .digits) (t .exponent))) (c .before .pre .2))
+    (subst (λ (p : ℕ). AtMostOne p (c .before .args .r) (c .before .args .c)) (sym (ap₂ (λ (r e : ℕ). r * 2 ^ e) (t .digits) (t .whole-part))) (c .before .pre .2))
 
 -- the pattern is that of the power of x
-pattern : (c : tie.After-fixed-exp2) → weightBits (c .fixed-exp2 .result .r * c .before .args .r) (c .fixed-exp2 .result .e + 115) (c .before .args .c) ≡ weightBits (fixedDigits (c .before .args .x) * c .before .args .r) (fixedExponent (c .before .args .x) + 115) (c .before .args .c)
-pattern c = ap₂ (λ (d e : ℕ). weightBits (d * c .before .args .r) (e + 115) (c .before .args .c)) (c .fixed-exp2 .ensures .digits) (c .fixed-exp2 .ensures .exponent)
+pattern : (c : tie.After-fixed-exp2) → unitBits (c .fixed-exp2 .result .r * c .before .args .r) (c .fixed-exp2 .result .e + 115) (c .before .args .c) ≡ weightBits (c .before .args .r) (c .before .args .c) (c .before .args .x)
+unfolding weightBits
+pattern c = ap₂ (λ (d e : ℕ). unitBits (d * c .before .args .r) (e + 115) (c .before .args .c)) (c .fixed-exp2 .ensures .digits) (c .fixed-exp2 .ensures .whole-part)
 
 -- sums, shifts and patterns that fit
 short : {n : ℕ} → n < 2 ^ 24 → Fits w32 n
@@ -53,9 +50,6 @@ places c e h l = omega arith
 few : (c e : ℕ) → c ≤ 190 → 62 ≤ e → Fits w64 (c + 40 - (e + 115))
 few c e h l = omega arith
 
-rounded : (c : tie.After-nearest-bits) → c .nearest-bits .result < 255 * 8388608
-rounded c = let p = digits (c .before .before .before .before) in lt-of-le-of-lt (le-of-eq (c .nearest-bits .ensures)) (rounding.bits-fit _ _ (p .most) (normal _ _ _ p (c .before .if1 .taken)))
-
 mul-n : tie.Need-mul-n
 mul-n c = record { fits = digits (c .before) .most }
 
@@ -67,9 +61,6 @@ sub-nearest-bits c = le-of-lt (c .if1 .taken)
 
 nearest-bits-requires : tie.Need-nearest-bits-requires
 nearest-bits-requires c κs = normal _ _ _ (digits (c .before .before .before)) (c .if1 .taken)
-
-float-from-bits-result : tie.Need-float-from-bits-result
-float-from-bits-result c = no-nan-positive _ (rounded c)
 
 add-result : tie.Need-add-result
 add-result c = small-sum′ _ (c .before .before .before .before .pre .1 .high)
@@ -86,19 +77,11 @@ shr-result c = places _ _ (c .before .before .before .before .pre .1 .high) (low
 cast-result-2 : tie.Need-cast-result-2
 cast-result-2 c = short (few-units _ _ _ (digits (c .before .before .before)) (c .if1 .left))
 
-float-from-bits-result-2 : tie.Need-float-from-bits-result-2
-float-from-bits-result-2 c = no-nan-positive _ (lt-of-lt-of-le (few-units _ _ _ (digits (c .before .before .before)) (c .if1 .left)) (lit≤ tt))
-
 returns : tie.Need-returns
-unfolding weightOf
-returns c =
-    let t = c .before .before .before .before in
-    ap (λ (b : ℕ). ofBits binary32 b) (c .nearest-bits .ensures ∙ sym (bits-more _ _ _ (digits t) (c .before .if1 .taken)) ∙ pattern t)
+returns c = let t = c .before .before .before .before in c .nearest-bits .ensures ∙ sym (bits-more _ _ _ (digits t) (c .before .if1 .taken)) ∙ pattern t
 
 returns-2 : tie.Need-returns-2
-unfolding weightOf
-returns-2 c = let t = c .before .before .before in ap (λ (b : ℕ). ofBits binary32 b) (sym (bits-few _ _ _ (digits t) (c .if1 .left)) ∙ pattern t)
+returns-2 c = let t = c .before .before .before in sym (bits-few _ _ _ (digits t) (c .if1 .left)) ∙ pattern t
 
 pub weight-spec : {M : Type 1} → statement M
-weight-spec =
-    tie.close (tie.spec fixed-exp2-requires mul-n add-e sub-nearest-bits nearest-bits-requires float-from-bits-result add-result sub-result cast-result shr-result cast-result-2 float-from-bits-result-2 returns returns-2)
+weight-spec = tie.close (tie.spec fixed-exp2-requires mul-n add-e sub-nearest-bits nearest-bits-requires add-result sub-result cast-result shr-result cast-result-2 returns returns-2)
