@@ -12,9 +12,9 @@ use Rattle.units.proofs.Naturals.{le-or-lt}
 use Rattle.exact.specs.Series.{partial, denominator, fourth, LimitNear}
 use Rattle.exact.specs.Circle.{Cosine, Sine, QuarterTurn, signed, bound}
 use Rattle.exact.proofs.Series.{over-pos, partial-grows, partial-tail, fourth-most}
-use Rattle.exact.proofs.Limits.{Both, cosine-of, sine-plus}
+use Rattle.exact.proofs.Limits.{Both, both-wider, cosine-of, sine-plus}
 use Rattle.exact.proofs.Quarter.{quarter, quarterUnit, quarter-unit-pos}
-use Rattle.exact.proofs.Zero.{enclosed}
+use Rattle.exact.proofs.Zero.{quarter-turn, enclosed}
 use Rattle.spectrum.specs.Difference.{Difference, whole, times}
 use Rattle.spectrum.specs.Table.{unit, entry, cosineBelow, sineBelow}
 use Rattle.spectrum.specs.Transform.{Turns}
@@ -119,6 +119,20 @@ unfolding above below
 near j l = record {
   cosine = limit 0 2 (2 ^ 61) unit 1 (cosineBelow j .plus) (cosineBelow j .minus) (quarter * j) q 47 q-pos (halves j l) (whole-turn (above 0 2 cosineBelow) cosine-above cosine-above-2 j l) (whole-turn (below 0 2 cosineBelow) cosine-below cosine-below-2 j l);
   sine = limit 1 3 (2 ^ 61) unit 1 (sineBelow j .plus) (sineBelow j .minus) (quarter * j) q 47 q-pos (halves j l) (whole-turn (above 1 3 sineBelow) sine-above sine-above-2 j l) (whole-turn (below 1 3 sineBelow) sine-below sine-below-2 j l);
+}
+
+-- so it is one of the tables that the promise speaks of
+pub own-table : Turns cosineBelow sineBelow unit
+own-table = record {
+  positive = pow-pos 61;
+  q = quarter;
+  d = 1;
+  w = quarterUnit;
+  wide = quarter-unit-pos;
+  quarter = quarter-turn;
+  narrow = unfold quarterUnit in lit≤ tt;
+  cosine = λ j l. cosine-of {p = quarter * j} {m = 0} (subst (λ (p : ℕ). Both p q (cosineBelow j .plus) (cosineBelow j .minus) (sineBelow j .plus) (sineBelow j .minus) unit 1 (2 ^ 60)) (sym (add-zero (quarter * j))) (both-wider (pow-pos 61) (lit≤ tt) (near j l)));
+  sine = λ j l. sine-plus (both-wider (pow-pos 61) (lit≤ tt) (near j l));
 }
 
 -- ---- by any enclosure of pi / 2, within 2 ^ -60 and what is left open

@@ -16,7 +16,7 @@ use Rattle.units.proofs.Bits.{Is, signBit, put, no-nan, no-nan-positive}
 use Rattle.units.proofs.Patterns.{pattern-back}
 use Rattle.fixed.specs.Rounded.{Normal, nearestBits}
 use Rattle.fixed.proofs.Rounding.{unitsOf, placed, near-most, near-least, is-units, is-positive, bits-fit, zero-bits, zero-units}
-use Rattle.spectrum.specs.Floats.{sizeBitsOf}
+use Rattle.spectrum.specs.Floats.{halfUp, sizeBitsOf}
 
 -- ---- what the tests say of n
 module _ (n e : ℕ) (few : n < 2 ^ 60) (high : e ≤ 269) where
@@ -75,7 +75,7 @@ module _ (n e : ℕ) (few : n < 2 ^ 60) (high : e ≤ 269) where
     pub below-76 : e ≤ 76
     below-76 = omega (arith, leading-le 64 n)
 
-    pub bits-cut : e < 53 → sizeBitsOf e n ≡ (n / 2 ^ (52 - e) + 1) / 2
+    pub bits-cut : e < 53 → sizeBitsOf e n ≡ halfUp (n / 2 ^ (52 - e))
     unfolding sizeBitsOf
     bits-cut l = rw (lt-leb (z + 13) e rest, lt-ltb e 53 l) refl
 
@@ -108,7 +108,7 @@ module _ (n e : ℕ) (few : n < 2 ^ 60) (high : e ≤ 269) where
       small : 2 ^ 23 ≤ 255 * 8388608
       small = omega arith
 
-      halved : (q : ℕ) → q < 2 ^ 24 → (q + 1) / 2 < 255 * 8388608
+      halved : (q : ℕ) → q < 2 ^ 24 → halfUp q < 255 * 8388608
       halved q h = omega arith
 
 -- ---- what float it is
@@ -159,15 +159,15 @@ module _ (n e : ℕ) (few : n < 2 ^ 60) (high : e ≤ 269) (s : Bool) where
   cut-sized a l =
       let q = n / 2 ^ (52 - e) in
       record {
-        units = (q + 1) / 2 * 1;
-        is = rw (bits-cut n e few high a l) (subst (λ (b : ℕ). Is (ofBits binary32 (signBit s + b)) s ((q + 1) / 2 * 1)) (zero-add ((q + 1) / 2)) (put s ((q + 1) / 2) 0 (inl refl) (halved q (cut-most n e few high a l)) (under q (cut-most n e few high a l))));
+        units = halfUp q * 1;
+        is = rw (bits-cut n e few high a l) (subst (λ (b : ℕ). Is (ofBits binary32 (signBit s + b)) s (halfUp q * 1)) (zero-add (halfUp q)) (put s (halfUp q) 0 (inl refl) (halved q (cut-most n e few high a l)) (under q (cut-most n e few high a l))));
         rounds = exact q (n * 2 ^ e) (low) (upper);
       }
     where
-      halved : (q : ℕ) → q < 2 ^ 24 → (q + 1) / 2 ≤ 2 ^ 24
+      halved : (q : ℕ) → q < 2 ^ 24 → halfUp q ≤ 2 ^ 24
       halved q h = omega arith
 
-      under : (q : ℕ) → q < 2 ^ 24 → 0 * 8388608 + (q + 1) / 2 < 255 * 8388608
+      under : (q : ℕ) → q < 2 ^ 24 → 0 * 8388608 + halfUp q < 255 * 8388608
       under q h = omega arith
 
       low : n / 2 ^ (52 - e) * 2 ^ 52 ≤ n * 2 ^ e
@@ -179,7 +179,7 @@ module _ (n e : ℕ) (few : n < 2 ^ 60) (high : e ≤ 269) (s : Bool) where
           regroup : (q x y : ℕ) → 2 ^ 52 ≡ x * y → (q * x + x) * y ≡ (q + 1) * 2 ^ 52
           regroup q x y h = omega (arith, ap (λ (k : ℕ). q * k) h)
 
-      exact : (q x : ℕ) → q * 2 ^ 52 ≤ x → x < (q + 1) * 2 ^ 52 → Rounds x ((q + 1) / 2 * 1)
+      exact : (q x : ℕ) → q * 2 ^ 52 ≤ x → x < (q + 1) * 2 ^ 52 → Rounds x (halfUp q * 1)
       exact q x h m = record { most = omega arith; least = omega arith }
 
   whole-sized : e < z n e few high + 13 → 53 ≤ e → Sized e n s

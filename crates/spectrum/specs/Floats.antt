@@ -47,9 +47,13 @@ pub record Loaded (e : ℕ) (xs : List Float) (ys : List ℕ) : Type 0 where
   pub as-many : length ys ≡ 128
   pub each : (i : ℕ) → i < 128 → getD ys i 0 ≡ wordOf e (at xs i)
 
+-- half of q, rounded up
+abbrev pub halfUp : ℕ → ℕ
+halfUp q = (q + 1) / 2
+
 -- n 2 ^ (e - 53) least floats as a pattern: rounded to 24 digits, or, where there are no more than these, to a whole one
 unfoldable pub sizeBitsOf : ℕ → ℕ → ℕ
-sizeBitsOf e n = cond (leb (leadingZeros 64 n + 13) e) (nearestBits (n * 16) (e - 17)) (cond (ltb e 53) ((n / 2 ^ (52 - e) + 1) / 2) (n * 2 ^ (e - 53)))
+sizeBitsOf e n = cond (leb (leadingZeros 64 n + 13) e) (nearestBits (n * 16) (e - 17)) (cond (ltb e 53) (halfUp (n / 2 ^ (52 - e))) (n * 2 ^ (e - 53)))
 
 -- the pattern of a word's value; never that of -0
 unfoldable pub bitsOf : ℕ → ℕ → ℕ
