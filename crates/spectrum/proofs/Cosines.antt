@@ -13,7 +13,8 @@ use Rattle.exact.specs.Series.{partial, denominator, fourth, LimitNear}
 use Rattle.exact.specs.Circle.{Cosine, Sine, QuarterTurn, signed, bound}
 use Rattle.exact.proofs.Series.{over-pos, partial-grows, partial-tail, fourth-most}
 use Rattle.exact.proofs.Limits.{Both, both-wider, cosine-of, sine-plus}
-use Rattle.exact.proofs.Quarter.{quarter, quarterUnit, quarter-unit-pos}
+use Rattle.exact.specs.Circle.{quarter, quarterUnit}
+use Rattle.exact.proofs.Quarter.{quarter-unit-pos}
 use Rattle.exact.proofs.Zero.{quarter-turn, enclosed}
 use Rattle.spectrum.specs.Difference.{Difference, whole, times}
 use Rattle.spectrum.specs.Table.{unit, entry, cosineBelow, sineBelow}
