@@ -4,3 +4,4 @@ pub mod Horner
 pub mod Alternating
 pub mod Rounding
 pub mod Either
+pub mod Chains
