@@ -5,16 +5,20 @@
 # make others  all 2^32 patterns through newlib's and glibc's functions, judged as ours are (some minutes)
 # make bench   speed beside newlib's and glibc's functions, and beside a loop in C; writes docs/bench.txt
 # make times   seconds and peak memory of each crate's check
+# make chip    the archive for a Cortex-M4F; chip/rules.mk says what else there is for the chip
 
 CC = cc
 CFLAGS = -O2 -Wall -Wextra
 LIBRARY = build/libearmath.a
-TESTS = values refusals spread wrong dot softmax loudness loudness_wrong
+TESTS = values refusals spread wrong modes dot softmax loudness loudness_wrong
 
-HARNESS = tests/blocks.c tests/dots.c tests/exact.c tests/judge.c tests/nearest.c tests/report.c tests/survey.c
-MAP_TESTS = build/tests/loudness build/tests/loudness_wrong build/tests/loudness_every
-MAP_HARNESS = tests/exact_map.c tests/map_judge.c tests/map_survey.c
-HEADERS = include/earmath.h $(wildcard tests/*.h)
+# Tests stand in folders by subject. What is no test or sweep there is a helper that all of them share.
+FOLDERS = tests/harness tests/functions tests/lists tests/loudness tests/chip
+SWEEPS = every loudness_every sweep faulty
+HELPERS = $(filter-out $(TESTS) $(SWEEPS),$(basename $(notdir $(wildcard $(FOLDERS:%=%/*.c)))))
+HEADERS = include/earmath.h $(wildcard $(FOLDERS:%=%/*.h))
+TEST_FLAGS = -std=c11 -D_POSIX_C_SOURCE=200809L $(CFLAGS) -pthread -Iinclude $(FOLDERS:%=-I%)
+vpath %.c $(FOLDERS)
 CRATES = crates.txt $(shell find crates -type f)
 
 .PHONY: all test tests every others bench times clean tools-for-make mpfr
@@ -45,9 +49,8 @@ others: build/others
 build/newlib/newlib.o: bench/newlib
 	bench/newlib
 
-build/others: tests/every.c $(HARNESS) $(HEADERS) $(LIBRARY) build/newlib/newlib.o
-	$(CC) -std=c11 -D_POSIX_C_SOURCE=200809L $(CFLAGS) -fno-builtin -pthread -Iinclude '-DTABLE="others.h"' $< $(HARNESS) \
-		build/newlib/newlib.o $(LIBRARY) -lm -o $@
+build/others: every.c build/helpers.a $(LIBRARY) build/newlib/newlib.o $(HEADERS)
+	$(CC) $(TEST_FLAGS) -fno-builtin '-DTABLE="others.h"' $(filter-out %.h,$^) -lmpfr -lgmp -lm -o $@
 
 bench: $(LIBRARY)
 	bench/run
@@ -56,7 +59,7 @@ times: tools-for-make
 	@tools/times
 
 clean:
-	rm -rf build target
+	rm -rf build target examples/chip/build
 
 # `error` says it in one line, where a recipe that fails would add one of make's own.
 need = $(eval missing := $(shell tools/need $(1) 2>&1))$(if $(missing),$(error $(missing)))
@@ -84,15 +87,16 @@ build/roots build/growth: build/%: examples/%.c include/earmath.h $(LIBRARY)
 build/growth.svg: build/growth
 	build/growth --svg >$@
 
-# The loudness map and softmax are tested against exact arithmetic.
-$(MAP_TESTS): HARNESS += $(MAP_HARNESS)
-$(MAP_TESTS): $(MAP_HARNESS)
-build/tests/softmax: HARNESS += tests/softmaxes.c
-build/tests/softmax: tests/softmaxes.c
-$(MAP_TESTS) build/tests/softmax: LIBRARIES = -lmpfr -lgmp
-$(MAP_TESTS) build/tests/softmax: | mpfr
-
-build/tests/%: tests/%.c $(HARNESS) $(HEADERS) $(LIBRARY)
+build/helpers/%.o: %.c $(HEADERS) | mpfr
 	@mkdir -p $(@D)
-	$(CC) -std=c11 -D_POSIX_C_SOURCE=200809L $(CFLAGS) -pthread -Iinclude $< $(HARNESS) $(LIBRARY) \
-		$(LIBRARIES) -lm -o $@
+	$(CC) $(TEST_FLAGS) -c $< -o $@
+
+build/helpers.a: $(HELPERS:%=build/helpers/%.o)
+	rm -f $@
+	ar rcs $@ $^
+
+build/tests/%: %.c build/helpers.a $(HEADERS) $(LIBRARY)
+	@mkdir -p $(@D)
+	$(CC) $(TEST_FLAGS) $< build/helpers.a $(LIBRARY) -lmpfr -lgmp -lm -o $@
+
+include chip/rules.mk

@@ -11,6 +11,7 @@
 
 #include "clock.h"
 #include "earmath.h"
+#include "straight.h"
 
 float newlib_powf(float x, float y);
 
@@ -21,22 +22,6 @@ static float newlib_exp2f(float x)
     return newlib_powf(2, x);
 }
 
-/* The same tests as in ear_softmax2, and the formula with some library's exp2f. */
-static inline uint32_t straight(float (*exp2_of)(float), const float *x, size_t n, float *p)
-{
-    float sum = 0;
-    if (n == 0 || n > LONGEST)
-        return EAR_BAD_LENGTH;
-    for (size_t i = 0; i < n; i++)
-        if (!(x[i] >= -64 && x[i] <= 64))
-            return EAR_OUT_OF_RANGE;
-    for (size_t i = 0; i < n; i++)
-        sum += p[i] = exp2_of(x[i]);
-    for (size_t i = 0; i < n; i++)
-        p[i] = p[i] / sum;
-    return EAR_OK;
-}
-
 static uint32_t ours(const float *x, size_t n, float *p)
 {
     return ear_softmax2(x, n, p, n);
@@ -44,12 +29,12 @@ static uint32_t ours(const float *x, size_t n, float *p)
 
 static uint32_t on_newlib(const float *x, size_t n, float *p)
 {
-    return straight(newlib_exp2f, x, n, p);
+    return straight_softmax(newlib_exp2f, x, n, p);
 }
 
 static uint32_t on_glibc(const float *x, size_t n, float *p)
 {
-    return straight(exp2f, x, n, p);
+    return straight_softmax(exp2f, x, n, p);
 }
 
 static uint32_t (*const contestants[CONTESTANTS])(const float *, size_t, float *) = {ours, on_newlib, on_glibc};

@@ -1,6 +1,6 @@
 /*
- * The loudness map as straightforward C: the same tests as in ear_loudness, and
- * the formula with some library's log2f. Rounding is by adding a half.
+ * Straightforward C: the same tests as in our functions, and the formula with some
+ * library's log2f or exp2f.
  */
 #ifndef STRAIGHT_H
 #define STRAIGHT_H
@@ -14,6 +14,7 @@ struct channel {
     uint32_t t, c;
 };
 
+/* The loudness map; rounding is by adding a half. */
 static inline uint32_t straight_map(float (*log2_of)(float), struct channel k, float a, uint32_t *out)
 {
     if (!(k.b >= 0x1p-24f && 2 * k.b <= k.m && k.m <= 1 && k.t <= k.c && k.c <= 255))
@@ -27,6 +28,22 @@ static inline uint32_t straight_map(float (*log2_of)(float), struct channel k, f
         *out = k.c;
     else
         *out = k.t + (uint32_t)(0.5f + steps * (log2_of(a) - log2_of(k.b)) / (log2_of(k.m) - log2_of(k.b)));
+    return EAR_OK;
+}
+
+/* Softmax: a float sum of the powers, and one division each. */
+static inline uint32_t straight_softmax(float (*exp2_of)(float), const float *x, uint64_t n, float *p)
+{
+    float sum = 0;
+    if (n == 0 || n > 1024)
+        return EAR_BAD_LENGTH;
+    for (uint32_t i = 0; i < n; i++)
+        if (!(x[i] >= -64 && x[i] <= 64))
+            return EAR_OUT_OF_RANGE;
+    for (uint32_t i = 0; i < n; i++)
+        sum += p[i] = exp2_of(x[i]);
+    for (uint32_t i = 0; i < n; i++)
+        p[i] = p[i] / sum;
     return EAR_OK;
 }
 

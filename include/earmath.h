@@ -6,16 +6,21 @@
  * the theorem. The archive calls nothing outside itself and keeps no state.
  *
  * Each function returns a code. On EAR_OK the result has been written; on any
- * other code nothing has been written, and *out is what it was. A result place
- * must be a valid, aligned pointer to memory that the caller may write.
+ * other code nothing has been written, and the result place is bit for bit what
+ * it was, also where it held a NaN of the caller's own. A result place must be a
+ * valid, aligned pointer to memory that the caller may write, and lists may not
+ * change while a call runs (by an interrupt, or by a DMA).
  *
- * The float unit is expected in its usual state: rounding to nearest, ties to
- * even, with subnormals kept and not flushed to zero.
+ * All functions but ear_dot are whole numbers inside: their promises hold in
+ * every state of the float unit, whatever its rounding mode and whether or not
+ * it reads subnormals as zero. They compare one float with itself, to know a NaN,
+ * and raise no exception but "invalid" where that is a signalling NaN ("denormal
+ * operand" too on x86). ear_dot expects the usual state: rounding to nearest,
+ * ties to even, with subnormals kept.
  */
 #ifndef EARMATH_H
 #define EARMATH_H
 
-#include <stddef.h>
 #include <stdint.h>
 
 #ifdef __cplusplus
@@ -58,8 +63,9 @@ uint32_t ear_rsqrt(float x, float *out);
  * 2 to the power x.
  *
  * Accepts: every x with -126 <= x <= 127.
- * Result:  within 515 * 2^-33 (2^-23.99) of the real number 2^x, relatively.
- *          Exactly 2^x where x is a whole number. Always a normal float.
+ * Result:  within 515 / 2^33 (below 2^-23.99) of the real number 2^x,
+ *          relatively. Exactly 2^x where x is a whole number. Always a normal
+ *          float.
  * Order:   never falls as x grows.
  * Refuses: NaN, both infinities, every x < -126 and every x > 127 with
  *          EAR_OUT_OF_RANGE; *out stays as it was.
@@ -82,10 +88,10 @@ uint32_t ear_log2(float x, float *out);
  * sin(pi x).
  *
  * Accepts: every finite x.
- * Result:  within 17 * 2^-29 (2^-24.91) of the real number sin(pi x), for that
- *          very x, however large. Exactly 0, 1 or -1 where 2 x is a whole
- *          number, and the 0 is +0. Always from -1 to 1. The bound is absolute:
- *          a result below 2^-8 is a multiple of 2^-32, and of tiny x it is +0.
+ * Result:  within 17 / 2^29 (below 2^-24.91) of the real number sin(pi x), for
+ *          that very x, however large. Exactly 0, 1 or -1 where 2 x is a whole
+ *          number, and the 0 is +0. Always from -1 to 1. The bound is absolute,
+ *          and says little of a result near 0.
  * Refuses: NaN and both infinities with EAR_OUT_OF_RANGE; *out stays as it was.
  */
 uint32_t ear_sinpi(float x, float *out);
@@ -99,9 +105,9 @@ uint32_t ear_cospi(float x, float *out);
  * sin(x), x in radians.
  *
  * Accepts: every x with -8192 <= x <= 8192.
- * Result:  within 17 * 2^-29 (2^-24.91) of the real number sin(x). Always from
- *          -1 to 1. The bound is absolute: a result below 2^-8 is a multiple of
- *          2^-32, and of tiny x it is +0.
+ * Result:  within 17 / 2^29 (below 2^-24.91) of the real number sin(x). Always
+ *          from -1 to 1. The bound is absolute, and says little of a result
+ *          near 0.
  * Refuses: NaN, both infinities, every x < -8192 and every x > 8192 with
  *          EAR_OUT_OF_RANGE; *out stays as it was.
  */
@@ -130,7 +136,7 @@ uint32_t ear_cos(float x, float *out);
  * a and b must be valid, aligned pointers to na and nb floats, and *out a float
  * of neither list.
  */
-uint32_t ear_dot(const float *a, size_t na, const float *b, size_t nb, float *out);
+uint32_t ear_dot(const float *a, uint64_t na, const float *b, uint64_t nb, float *out);
 
 /*
  * Softmax, base two: p[i] is 2^x[i] over the sum of 2^x[j] for all j, for lists
@@ -138,9 +144,9 @@ uint32_t ear_dot(const float *a, size_t na, const float *b, size_t nb, float *ou
  *
  * Accepts: nx = np = n, 1 <= n <= 1,024, and every x[i] from -64 to 64.
  * Result:  with q[i] for the real quotient,
- *          (1 - e) q[i] - 2^-149 <= p[i] <= (1 + e) q[i], e = 273 * 2^-32,
- *          which is 2^-23.9. Every p[i] is from 0 to 1, and the exact sum of
- *          all of them is within 263 * 2^-32 of 1. So rel 2^-13 where q[i] is
+ *          (1 - e) q[i] - 2^-149 <= p[i] <= (1 + e) q[i], e = 273 / 2^32,
+ *          below 2^-23.9. Every p[i] is from 0 to 1, and the exact sum of
+ *          all of them is within 263 / 2^32 of 1. So rel 2^-13 where q[i] is
  *          at least 2^-100, abs 2^-100 elsewhere and 2^-13 for the sum are kept.
  * Order:   x[i] <= x[j] gives p[i] <= p[j], and equal inputs get the same float.
  * Refuses: with the first of these codes that applies; the whole list p stays as
@@ -151,7 +157,7 @@ uint32_t ear_dot(const float *a, size_t na, const float *b, size_t nb, float *ou
  * x and p must be valid, aligned pointers to nx and np floats, and the two lists
  * may not overlap.
  */
-uint32_t ear_softmax2(const float *x, size_t nx, float *p, size_t np);
+uint32_t ear_softmax2(const float *x, uint64_t nx, float *p, uint64_t np);
 
 /*
  * The loudness map: from the envelope of one channel to a whole current step.

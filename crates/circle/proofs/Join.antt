@@ -11,13 +11,13 @@ use borrow.Author.Tests.{lt-ltb, le-ltb}
 use Rattle.units.specs.Units.{P, N}
 use Rattle.units.proofs.Naturals.{le-or-lt}
 use Rattle.exact.specs.Series.{LimitNear}
-use Rattle.exact.specs.Circle.{Sine, Cosine}
+use Rattle.exact.specs.Circle.{Sine, Cosine, signed, bound}
 use Rattle.exact.proofs.Approximation.{near-finer, near-instead}
 use Rattle.exact.proofs.Limits.{near-wider, Both, cosine-of, sine-plus, sine-minus}
 use Rattle.fixed.proofs.Rounding.{unitsOf, zero-units}
 use Rattle.circle.specs.Wave.{sizeOf, waveBits, wave}
 use Rattle.circle.proofs.Method.{D}
-use Rattle.circle.proofs.Pattern.{plusOf, minusOf, Signed, wave-signed, size-top, units-most, units-least}
+use Rattle.circle.proofs.Pattern.{plusOf, minusOf, Computed, wave-signed, size-top, units-most, units-least}
 use Rattle.circle.proofs.Turn.{opposite}
 
 -- units of 2 ^ -149 in one of 2 ^ -32
@@ -37,7 +37,7 @@ module _ (t : ℕ) (few : t < 2 ^ 64) where
   rounded : (P r * 1 + minusOf t * H ≤ plusOf t * H + N r * 1 + 2 ^ 124 * 1) × (plusOf t * H + N r * 1 ≤ P r * 1 + minusOf t * H + 2 ^ 124 * 1)
   rounded = go one-side
     where
-      s : Signed t (waveBits t) r
+      s : Computed t (waveBits t) r
       s = wave-signed t few
 
       n : ℕ
@@ -83,12 +83,12 @@ module _ (t : ℕ) (few : t < 2 ^ 64) where
 
 -- the sine: the float at its phase, or half a turn on
 pub sine-joined : {p q C C′ U a b : ℕ} (s : Bool) (t : ℕ) → t < 2 ^ 64 → Both p q C C′ (P (wave t)) (N (wave t)) U a b → (r : Float) →
-    r ≡ wave ((t + cond s 1 0 * 2 ^ 63) % 2 ^ 64) → Sine (cond s 0 p) (cond s p 0) q (P r) (N r) U a b
+    r ≡ wave ((t + cond s 1 0 * 2 ^ 63) % 2 ^ 64) → Sine (signed (cond s 0 p) (cond s p 0) q) (signed (P r) (N r) U) (bound a b)
 sine-joined true t few h r e = let (i, j) = turned-float t few in rw (e, i, j) (sine-minus h)
 sine-joined false t few h r e = let same : (t + 0) % 2 ^ 64 ≡ t = omega arith in rw (e, same) (sine-plus h)
 
 -- the cosine, whatever the sign
 pub cosine-joined : {p q S S′ U a b : ℕ} (s : Bool) (t : ℕ) → Both p q (P (wave t)) (N (wave t)) S S′ U a b → (r : Float) → r ≡ wave t →
-    Cosine (cond s 0 p) (cond s p 0) q (P r) (N r) U a b
+    Cosine (signed (cond s 0 p) (cond s p 0) q) (signed (P r) (N r) U) (bound a b)
 cosine-joined {p} true t h r e = rw e (cosine-of (rw (← zero-add p) at h))
 cosine-joined {p} false t h r e = rw e (cosine-of (rw (← add-zero p) at h))

@@ -9,4 +9,5 @@ pub mod Join
 pub mod Taken
 pub mod Near
 pub mod Whole
+pub mod Range
 pub mod Promise

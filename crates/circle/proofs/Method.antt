@@ -16,7 +16,7 @@ use Rattle.exact.proofs.Mirror.{mirror, value-mirror}
 use Rattle.exact.proofs.Series.{fourth-most}
 use Rattle.exact.proofs.Approximation.{not-above, near-polynomial}
 use Rattle.fixed.proofs.Alternating.{signed}
-use Rattle.circle.specs.Kernel.{first, rest}
+use Rattle.circle.specs.Kernel.{kernelFirst, kernelRest}
 use Rattle.exact.proofs.Quarter.{quarter, quarterUnit}
 
 -- all coefficients, for the powers of t ^ 2, in units of 2 ^ -32
@@ -24,8 +24,8 @@ abbrev pub D : ℕ
 D = 2 ^ 32
 
 unfoldable pub coefficients : List ℕ
-unfolding rest
-coefficients = (2 * first) ∷ rest
+unfolding kernelRest
+coefficients = (2 * kernelFirst) ∷ kernelRest
 
 -- the polynomial in t: what is added (true), and what is taken away
 unfoldable pub part : Bool → List ℕ

@@ -10,14 +10,14 @@ use lib.Pow.{pow-pos}
 use lib.Ieee.{Float}
 use Rattle.units.specs.Units.{mag, negative, P, N, Number}
 use Rattle.units.proofs.Size.{mag-lt}
-use Rattle.exact.specs.Circle.{Sine, Cosine, QuarterTurn}
+use Rattle.exact.specs.Circle.{Sine, Cosine, QuarterTurn, bound}
 use Rattle.exact.proofs.Limits.{Both, both-wider}
 use Rattle.exact.proofs.Quarter.{quarter, quarterUnit}
 use Rattle.exact.proofs.Zero.{enclosed}
 use Rattle.fixed.proofs.Either.{sign-bit}
 use Rattle.circle.specs.Phase.{radians}
-use Rattle.circle.specs.Wave.{sizeOf, wave, sinPiOf, cosPiOf, sinOf, cosOf}
-use Rattle.circle.specs.Promise.{waveError, waveUnit, Accepts, openError, openUnit}
+use Rattle.circle.specs.Wave.{sizeOf, wave, halfOn, quarterOn, sinPiOf, cosPiOf, sinOf, cosOf}
+use Rattle.circle.specs.Promise.{waveErrorNum, waveErrorDen, Accepts, asFraction, piTimes, openBound}
 use Rattle.circle.proofs.Method.{D}
 use Rattle.circle.proofs.Pattern.{wave-signed, size-top, units-top}
 use Rattle.circle.proofs.Reduction.{half-arrived}
@@ -44,11 +44,11 @@ module _ (x : Float) (h : Number x) where
   half = mag x / 2 ^ 86
 
   pub sinPi-is : sinPiOf x ≡ wave ((half % 2 ^ 64 + cond (negative x) 1 0 * 2 ^ 63) % 2 ^ 64)
-  unfolding sinPiOf
+  unfolding sinPiOf halfOn
   sinPi-is = rw (half-turns-taken x h, sign-bit x h) refl
 
   pub cosPi-is : cosPiOf x ≡ wave ((half + 2 ^ 62) % 2 ^ 64)
-  unfolding cosPiOf
+  unfolding cosPiOf quarterOn
   cosPi-is = rw (half-turns-taken x h) (ap wave (on half))
     where
       on : (n : ℕ) → (n % 2 ^ 64 + 2 ^ 62) % 2 ^ 64 ≡ (n + 2 ^ 62) % 2 ^ 64
@@ -61,13 +61,13 @@ module _ (x : Float) (h : Number x) where
   module _ (c d w : ℕ) (wpos : 0 < w) (turn : QuarterTurn c d w) where
     -- by any other; 17 2 ^ -29 is 136 2 ^ -32, so that there is room for what is between them
     any-near : Both (c * (2 * mag x)) (w * 2 ^ 149) (P (wave ((half + 2 ^ 62) % 2 ^ 64))) (N (wave ((half + 2 ^ 62) % 2 ^ 64))) (P (wave (half % 2 ^ 64))) (N (wave (half % 2 ^ 64))) (2 ^ 149)
-        (openError d w x) (openUnit w)
-    any-near = enclosed (2 * mag x) (2 ^ 149) (2 ^ 40) waveError waveUnit wpos (pow-pos 149) (lit< tt) (lit< tt) turn room half-near
+        (openBound d w x .num) (openBound d w x .den)
+    any-near = enclosed (2 * mag x) (2 ^ 149) (2 ^ 40) waveErrorNum waveErrorDen wpos (pow-pos 149) (lit< tt) (lit< tt) turn room half-near
       where
-        room : 135 * waveUnit * (quarterUnit * 2 ^ 149 * 2 ^ 40) + D * waveUnit * (2 * mag x * 2 ^ 40 + quarterUnit * 2 ^ 149) ≤ waveError * D * (quarterUnit * 2 ^ 149 * 2 ^ 40)
+        room : 135 * waveErrorDen * (quarterUnit * 2 ^ 149 * 2 ^ 40) + D * waveErrorDen * (2 * mag x * 2 ^ 40 + quarterUnit * 2 ^ 149) ≤ waveErrorNum * D * (quarterUnit * 2 ^ 149 * 2 ^ 40)
         room = through (quarterUnit * 2 ^ 149) (mag x) (le-trans (mul-le-mul-right (2 ^ 34) (le-of-lt (mag-lt x h))) (unfold quarterUnit in lit≤ tt))
           where
-            through : (Q M : ℕ) → M * 2 ^ 34 ≤ Q → 135 * waveUnit * (Q * 2 ^ 40) + D * waveUnit * (2 * M * 2 ^ 40 + Q) ≤ waveError * D * (Q * 2 ^ 40)
+            through : (Q M : ℕ) → M * 2 ^ 34 ≤ Q → 135 * waveErrorDen * (Q * 2 ^ 40) + D * waveErrorDen * (2 * M * 2 ^ 40 + Q) ≤ waveErrorNum * D * (Q * 2 ^ 40)
             through Q M l = omega arith
 
     -- either sign
@@ -75,10 +75,10 @@ module _ (x : Float) (h : Number x) where
     side true m = (mul-zero c, refl)
     side false m = (refl, mul-zero c)
 
-    pub sinPi-near : Sine (c * (2 * P x)) (c * (2 * N x)) (w * 2 ^ 149) (P (sinPiOf x)) (N (sinPiOf x)) (2 ^ 149) (openError d w x) (openUnit w)
+    pub sinPi-near : Sine (piTimes c w x) (asFraction (sinPiOf x)) (openBound d w x)
     sinPi-near = let (e, f) = side (negative x) (mag x) in rw (e, f) (sine-joined (negative x) (half % 2 ^ 64) (less half) any-near (sinPiOf x) sinPi-is)
 
-    pub cosPi-near : Cosine (c * (2 * P x)) (c * (2 * N x)) (w * 2 ^ 149) (P (cosPiOf x)) (N (cosPiOf x)) (2 ^ 149) (openError d w x) (openUnit w)
+    pub cosPi-near : Cosine (piTimes c w x) (asFraction (cosPiOf x)) (openBound d w x)
     cosPi-near = let (e, f) = side (negative x) (mag x) in rw (e, f) (cosine-joined (negative x) ((half + 2 ^ 62) % 2 ^ 64) any-near (cosPiOf x) cosPi-is)
 
 -- ---- x itself
@@ -92,18 +92,18 @@ module _ (x : Float) (a : Accepts x) where
   t-few = less _
 
   pub sin-is : sinOf x ≡ wave ((t + cond (negative x) 1 0 * 2 ^ 63) % 2 ^ 64)
-  unfolding sinOf
+  unfolding sinOf halfOn
   sin-is = rw (sign-bit x (a .number)) refl
 
   pub cos-is : cosOf x ≡ wave ((t + 2 ^ 62) % 2 ^ 64)
-  unfolding cosOf
+  unfolding cosOf quarterOn
   cos-is = refl
 
-  both-near : Both (mag x) (2 ^ 149) (P (wave ((t + 2 ^ 62) % 2 ^ 64))) (N (wave ((t + 2 ^ 62) % 2 ^ 64))) (P (wave t)) (N (wave t)) (2 ^ 149) waveError waveUnit
+  both-near : Both (mag x) (2 ^ 149) (P (wave ((t + 2 ^ 62) % 2 ^ 64))) (N (wave ((t + 2 ^ 62) % 2 ^ 64))) (P (wave t)) (N (wave t)) (2 ^ 149) waveErrorNum waveErrorDen
   both-near = both-wider (lit< tt) (lit≤ tt) (both-float ((t + 2 ^ 62) % 2 ^ 64) t (less (t + 2 ^ 62)) t-few (radians-taken x a))
 
-  pub sin-near : Sine (P x) (N x) (2 ^ 149) (P (sinOf x)) (N (sinOf x)) (2 ^ 149) waveError waveUnit
+  pub sin-near : Sine (asFraction x) (asFraction (sinOf x)) (bound waveErrorNum waveErrorDen)
   sin-near = sine-joined (negative x) t t-few both-near (sinOf x) sin-is
 
-  pub cos-near : Cosine (P x) (N x) (2 ^ 149) (P (cosOf x)) (N (cosOf x)) (2 ^ 149) waveError waveUnit
+  pub cos-near : Cosine (asFraction x) (asFraction (cosOf x)) (bound waveErrorNum waveErrorDen)
   cos-near = cosine-joined (negative x) ((t + 2 ^ 62) % 2 ^ 64) both-near (cosOf x) cos-is

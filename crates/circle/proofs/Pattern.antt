@@ -2,22 +2,23 @@
 use mathlib.Core.Path.{_≡_, refl, sym, _∙_}
 use mathlib.Core.Logic.{_⊎_, inl, inr}
 use mathlib.Core.Bool.{Bool, true, false, not, cond}
-use Prim.Native.Nat.{ℕ, _+_, _-_, _*_, _/_, _%_, _^_, _≤_, _<_}
-use native.Mathlib.Nat.{le-trans, le-of-eq, eq-zero-or-pos, mul-le-mul-right, le-of-mul-le-mul-right, add-le-add, le-refl}
+use Prim.Native.Nat.{ℕ, _+_, _-_, _*_, _/_, _^_, _≤_, _<_}
+use native.Mathlib.Nat.{le-trans, le-of-eq, eq-zero-or-pos, mul-le-mul-right, le-of-mul-le-mul-right, add-le-add, le-refl, mod-lt}
 use native.Mathlib.Omega.{arith}
 use lib.Count.{leadingZeros}
-use lib.Dec.{T, eqb, ltb, lit<, lit≤}
+use lib.Dec.{T, ltb, lit<, lit≤}
 use lib.Pow.{pow-pos}
-use lib.Ieee.{Float, binary32, ofBits, nanBits}
+use lib.Ieee.{Float, binary32, ofBits, toBits, nanBits}
 use Rattle.units.specs.Units.{mag, negative, P, N, Number}
 use borrow.Author.Tests.{eq-eqb, ne-eqb, lt-ltb, le-ltb}
 use Rattle.units.proofs.Naturals.{le-or-lt}
 use Rattle.units.proofs.Bits.{signBit, no-nan, no-nan-positive}
 use Rattle.units.proofs.Ranges.{zero-is, zero-units}
+use Rattle.units.proofs.Patterns.{pattern-back}
 use Rattle.fixed.specs.Rounded.{Normal, digitsOf, nearestBits}
 use Rattle.fixed.proofs.Rounding as fixed
 use Rattle.fixed.proofs.Rounding.{unitsOf, bits-fit, is-units, half-most, half-least, units-order}
-use Rattle.circle.specs.Wave.{placeOf, sizeOf, waveBits, wave}
+use Rattle.circle.specs.Wave.{forward, intoQuarter, placeOf, sizeOf, waveBits, wave}
 use Rattle.circle.proofs.Method.{D}
 use Rattle.circle.proofs.Rounding.{quarter-top}
 
@@ -30,12 +31,12 @@ normal n = record { least = λ h. le-trans (le-trans (lit≤ tt) (mul-le-mul-rig
 module _ (t : ℕ) where
   -- a place has 32 digits
   pub place-few : placeOf t < D
-  unfolding placeOf
-  place-few = go (eqb (t / 2 ^ 62 % 2) 0)
+  unfolding placeOf intoQuarter
+  place-few = go (forward t) (intoQuarter t) (mod-lt _ (pow-pos 32))
     where
-      go : (b : Bool) → cond b (t / 2 ^ 30 % 2 ^ 32) (4294967295 - t / 2 ^ 30 % 2 ^ 32) < D
-      go true = omega arith
-      go false = omega arith
+      go : (b : Bool) (n : ℕ) → n < 2 ^ 32 → cond b n (4294967295 - n) < D
+      go true n l = omega arith
+      go false n l = omega arith
 
   pub size-top : sizeOf t ≤ D + 7
   unfolding sizeOf
@@ -94,16 +95,17 @@ minusOf t = cond (ltb t (2 ^ 63)) 0 (sizeOf t)
 
 -- the pattern where nothing is left, and where something is
 module _ (t : ℕ) where
-  pub wave-zero : sizeOf t ≡ 0 → waveBits t ≡ 0
+  wave-zero : sizeOf t ≡ 0 → waveBits t ≡ 0
   unfolding waveBits
   wave-zero z = rw (eq-eqb (sizeOf t) 0 z)
 
-  pub wave-some : (sizeOf t ≡ 0 → ⊥) → waveBits t ≡ t / 2 ^ 63 * 2147483648 + nearestBits (sizeOf t) 157
+  wave-some : (sizeOf t ≡ 0 → ⊥) → waveBits t ≡ t / 2 ^ 63 * 2147483648 + nearestBits (sizeOf t) 157
   unfolding waveBits
   wave-some h = rw (ne-eqb (sizeOf t) 0 h)
 
 -- the float x of the pattern b is what was computed, rounded
-pub record Signed (t b : ℕ) (x : Float) : Type 0 where
+pub record Computed (t b : ℕ) (x : Float) : Type 0 where
+  pub few : b < 4294967296
   pub real : T (not (nanBits binary32 b))
   pub number : Number x
   pub plus : P x ≡ unitsOf (plusOf t) 157
@@ -118,9 +120,10 @@ module _ (t : ℕ) (few : t < 2 ^ 64) where
   short-size = short n (size-top t)
 
   -- nothing is left
-  nothing : n ≡ 0 → Signed t 0 (ofBits binary32 0)
+  nothing : n ≡ 0 → Computed t 0 (ofBits binary32 0)
   unfolding plusOf minusOf
   nothing z = record {
+    few = omega arith;
     real = no-nan-positive 0 (omega arith);
     number = zero-is .number;
     plus = zero-units .0 ∙ sym (none (ltb t (2 ^ 63)));
@@ -137,11 +140,12 @@ module _ (t : ℕ) (few : t < 2 ^ 64) where
       none′ false = fixed.zero-units n 157 z
 
   -- something, in either half of the turn
-  some : 0 < n → (s : Bool) → ltb t (2 ^ 63) ≡ not s → Signed t (signBit s + nearestBits n 157) (ofBits binary32 (signBit s + nearestBits n 157))
+  some : 0 < n → (s : Bool) → ltb t (2 ^ 63) ≡ not s → Computed t (signBit s + nearestBits n 157) (ofBits binary32 (signBit s + nearestBits n 157))
   unfolding plusOf minusOf
   some h s half =
       let is = is-units n 157 short-size (normal n) s h in
       record {
+        few = under-sign s (bits-fit n 157 short-size (normal n));
         real = no-nan s (nearestBits n 157) (bits-fit n 157 short-size (normal n));
         number = is .number;
         plus = above s half (is .sign) (is .units);
@@ -152,6 +156,10 @@ module _ (t : ℕ) (few : t < 2 ^ 64) where
       x : Float
       x = ofBits binary32 (signBit s + nearestBits n 157)
 
+      under-sign : (s : Bool) → nearestBits n 157 < 255 * 8388608 → signBit s + nearestBits n 157 < 4294967296
+      under-sign true l = omega arith
+      under-sign false l = omega arith
+
       above : (s : Bool) → ltb t (2 ^ 63) ≡ not s → negative x ≡ s → mag x ≡ unitsOf n 157 → P x ≡ unitsOf (cond (ltb t (2 ^ 63)) n 0) 157
       above true e i u = rw (e, i) (sym (fixed.zero-units 0 157 refl))
       above false e i u = rw (e, i) u
@@ -161,13 +169,18 @@ module _ (t : ℕ) (few : t < 2 ^ 64) where
       under false e i u = rw (e, i) (sym (fixed.zero-units 0 157 refl))
 
   -- the sine's pattern, and its float
-  pub wave-signed : Signed t (waveBits t) (wave t)
+  pub wave-signed : Computed t (waveBits t) (wave t)
   unfolding wave
   wave-signed = elim (eq-zero-or-pos n) [
     | inl z ↦ rw (wave-zero t z) (nothing z)
     | inr h ↦ rw (wave-some t (λ z. omega arith)) (either (le-or-lt (2 ^ 63) t) h)
   ]
     where
-      either : (2 ^ 63 ≤ t) ⊎ (t < 2 ^ 63) → 0 < n → Signed t (t / 2 ^ 63 * 2147483648 + nearestBits n 157) (ofBits binary32 (t / 2 ^ 63 * 2147483648 + nearestBits n 157))
+      either : (2 ^ 63 ≤ t) ⊎ (t < 2 ^ 63) → 0 < n → Computed t (t / 2 ^ 63 * 2147483648 + nearestBits n 157) (ofBits binary32 (t / 2 ^ 63 * 2147483648 + nearestBits n 157))
       either (inl l) h = let e : t / 2 ^ 63 ≡ 1 = omega arith in rw e (some h true (le-ltb t (2 ^ 63) l))
       either (inr l) h = let e : t / 2 ^ 63 ≡ 0 = omega arith in rw e (some h false (lt-ltb t (2 ^ 63) l))
+
+  -- read back
+  pub wave-pattern : toBits binary32 (wave t) ≡ waveBits t
+  unfolding wave
+  wave-pattern = pattern-back (waveBits t) (wave-signed .few) (wave-signed .real)

@@ -12,22 +12,22 @@ use Rattle.exact.proofs.Polynomial.{value-odd}
 use Rattle.exact.proofs.Power.{mul-pow}
 use Rattle.fixed.specs.Horner.{alternating}
 use Rattle.fixed.proofs.Alternating.{Close, close-step, signed, loss, falling, alternating-close, alternating-most}
-use Rattle.circle.specs.Kernel.{first, second, rest, squareOf, slopeOf, quarterSine}
+use Rattle.circle.specs.Kernel.{kernelFirst, kernelSecond, kernelRest, squareOf, slopeOf, quarterSine}
 use Rattle.circle.proofs.Method.{D, coefficients, part, part-most}
 
 -- the first coefficient, and the others
 module _ (y e : ℕ) where
-  plus-value : value 5 (signed true coefficients) y e ≡ 2 * first * (e ^ 4 * e) + y * value 4 (signed false rest) y e
+  plus-value : value 5 (signed true coefficients) y e ≡ 2 * kernelFirst * (e ^ 4 * e) + y * value 4 (signed false kernelRest) y e
   unfolding coefficients signed value
   plus-value = rw (← pow-suc e 4) refl
 
-  minus-value : value 5 (signed false coefficients) y e ≡ y * value 4 (signed true rest) y e
+  minus-value : value 5 (signed false coefficients) y e ≡ y * value 4 (signed true kernelRest) y e
   unfolding coefficients signed value
   minus-value = omega arith
 
 -- what the floors lose, and the coarser unit of the first coefficient
-losses : (loss D 3 rest .1 + 2 * D + 3 * second ≤ 6 * D) × (loss D 3 rest .0 ≤ 3 * D)
-unfolding loss rest
+losses : (loss D 3 kernelRest .1 + 2 * D + 3 * kernelSecond ≤ 6 * D) × (loss D 3 kernelRest .0 ≤ 3 * D)
+unfolding loss kernelRest
 losses = (lit≤ tt, lit≤ tt)
 
 -- w / D is x / d, cut off
@@ -65,19 +65,19 @@ module _ (w x d : ℕ) (few : w < D) (pos : 0 < d) (small : x ≤ d) (low : w * 
   -- ---- the slope
 
   abbrev made : ℕ
-  made = alternating D rest z
+  made = alternating D kernelRest z
 
-  made-most : made ≤ second
-  unfolding rest
-  made-most = alternating-most D second _ z
+  made-most : made ≤ kernelSecond
+  unfolding kernelRest
+  made-most = alternating-most D kernelSecond _ z
 
-  made-close : Close D made (e ^ 4) (value 4 (signed true rest) y e) (value 4 (signed false rest) y e) (loss D 3 rest .0) (loss D 3 rest .1)
-  made-close = alternating-close D z y e 3 unit square-low square-high (mul-le-mul small small) square-small 4 rest (unfold rest in lit≤ tt) (unfold rest falling in tt)
+  made-close : Close D made (e ^ 4) (value 4 (signed true kernelRest) y e) (value 4 (signed false kernelRest) y e) (loss D 3 kernelRest .0) (loss D 3 kernelRest .1)
+  made-close = alternating-close D z y e 3 unit square-low square-high (mul-le-mul small small) square-small 4 kernelRest (unfold kernelRest in lit≤ tt) (unfold kernelRest falling in tt)
 
   abbrev q : ℕ
   q = made * z / 8589934592
 
-  taken : q ≤ first
+  taken : q ≤ kernelFirst
   taken =
       let h : q * 8589934592 ≤ made * z = div-mul-le-self (made * z) 8589934592 in
       omega (arith, made-most, mul-le-mul made-most square-small)
@@ -87,12 +87,12 @@ module _ (w x d : ℕ) (few : w < D) (pos : 0 < d) (small : x ≤ d) (low : w * 
   unfolding slopeOf
   slope-close =
       widened
-      (close-step D z y e 3 square-low square-high (mul-le-mul small small) 2 first second q made-close made-most taken (div-mul-le-self (made * z) 8589934592)
+      (close-step D z y e 3 square-low square-high (mul-le-mul small small) 2 kernelFirst kernelSecond q made-close made-most taken (div-mul-le-self (made * z) 8589934592)
       (le-of-lt (lt-div-mul-add (lit< tt))))
     where
-      widened : Close D (2 * (first - q)) (e ^ 4 * e) (2 * first * (e ^ 4 * e) + y * value 4 (signed false rest) y e) (y * value 4 (signed true rest) y e)
-          (loss D 3 rest .1 + 2 * D + 3 * second) (loss D 3 rest .0) →
-          Close D (2 * (first - q)) (e ^ 5) (value 5 (signed true coefficients) y e) (value 5 (signed false coefficients) y e) (6 * D) (3 * D)
+      widened : Close D (2 * (kernelFirst - q)) (e ^ 4 * e) (2 * kernelFirst * (e ^ 4 * e) + y * value 4 (signed false kernelRest) y e) (y * value 4 (signed true kernelRest) y e)
+          (loss D 3 kernelRest .1 + 2 * D + 3 * kernelSecond) (loss D 3 kernelRest .0) →
+          Close D (2 * (kernelFirst - q)) (e ^ 5) (value 5 (signed true coefficients) y e) (value 5 (signed false coefficients) y e) (6 * D) (3 * D)
       widened h = rw (plus-value y e, minus-value y e, pow-suc e 4) (record {
         most = le-trans (h .most) (add-le-add (le-refl _) (mul-le-mul-right (e ^ 4 * e) (losses .0)));
         least = le-trans (h .least) (add-le-add (le-refl _) (mul-le-mul-right (e ^ 4 * e) (losses .1)));
@@ -103,9 +103,9 @@ module _ (w x d : ℕ) (few : w < D) (pos : 0 < d) (small : x ≤ d) (low : w * 
   abbrev S : ℕ
   S = slopeOf w
 
-  slope-most : S ≤ first
+  slope-most : S ≤ kernelFirst
   unfolding slopeOf
-  slope-most = sub-le first q
+  slope-most = sub-le kernelFirst q
 
   abbrev p : ℕ
   p = quarterSine w

@@ -8,11 +8,11 @@ use lib.Dec.{lit≤}
 use lib.Pow.{pow-add, pow-pos, pow-mono}
 use lib.Ieee.{Float, binary32, toBits}
 use Rattle.units.specs.Units.{mag, Number}
-use Rattle.units.proofs.Signs.{sides}
 use Rattle.units.proofs.Naturals.{le-or-lt, pow-back}
+use Rattle.units.proofs.Between.{between-size}
 use Rattle.exact.proofs.Limits.{Both}
 use Rattle.fixed.proofs.Either.{Normal, Subnormal, size-bits}
-use Rattle.circle.specs.Phase.{digits, exponent, halfTurns, windowOf, radians}
+use Rattle.circle.specs.Phase.{significandOf, exponentField, halfTurns, windowOf, radians}
 use Rattle.circle.specs.Promise.{Accepts}
 use Rattle.circle.proofs.Method.{D}
 use Rattle.circle.proofs.Pattern.{plusOf, minusOf}
@@ -31,15 +31,15 @@ half-turns-taken x h = go (size-bits x h)
     b : ℕ
     b = sizeBits x
 
-    go : Normal x b ⊎ Subnormal x b → digits b * 2 ^ exponent b / 2 ^ 87 % 2 ^ 64 ≡ mag x / 2 ^ 86 % 2 ^ 64
+    go : Normal x b ⊎ Subnormal x b → significandOf b * 2 ^ exponentField b / 2 ^ 87 % 2 ^ 64 ≡ mag x / 2 ^ 86 % 2 ^ 64
     go (inl n) = ap (λ (u : ℕ). u / 2 ^ 87 % 2 ^ 64) (sym (n .units) ∙ mul-comm 2 (mag x)) ∙ ap (λ (u : ℕ). u % 2 ^ 64) (mul-div-mul-right (mag x) (2 ^ 86) (pow-pos 1))
     go (inr s) =
         let e : b / 8388608 ≡ 0 = s .none in
-        let little : digits b * 2 ^ exponent b < 2 ^ 87 = rw e (lt-of-lt-of-le (few b) (lit≤ tt)) in
+        let little : significandOf b * 2 ^ exponentField b < 2 ^ 87 = rw e (lt-of-lt-of-le (few b) (lit≤ tt)) in
         let less : mag x < 2 ^ 86 = lt-of-lt-of-le (s .few) (lit≤ tt) in
         ap (λ (u : ℕ). u % 2 ^ 64) (div-eq-of-lt little ∙ sym (div-eq-of-lt less))
       where
-        few : (b : ℕ) → digits b * 2 ^ 0 < 2 ^ 25
+        few : (b : ℕ) → significandOf b * 2 ^ 0 < 2 ^ 25
         few b = omega arith
 
 -- ---- x itself
@@ -51,27 +51,19 @@ module _ (x : Float) (a : Accepts x) where
   abbrev b : ℕ
   b = sizeBits x
 
-  -- the size, on either side of zero
-  size-most : mag x ≤ 8192 * 2 ^ 149
-  size-most = elim (sides x) [ inl h ↦ le-trans (le-of-eq (sym (h .0))) (a .at-most) | inr h ↦ le-trans (le-of-eq (sym (h .1))) (a .at-least) ]
-
   -- the exponent of a size up to 8192
-  low-exponent : exponent b ≤ 140
+  low-exponent : exponentField b ≤ 140
   low-exponent = go (size-bits x (a .number))
     where
-      go : Normal x b ⊎ Subnormal x b → exponent b ≤ 140
+      go : Normal x b ⊎ Subnormal x b → exponentField b ≤ 140
       go (inr s) = rw (s .none) (omega arith)
       go (inl n) =
-          let l : 2 ^ (23 + exponent b) ≤ 2 ^ 163 = le-trans (le-of-eq (pow-add 2 23 (exponent b))) (le-trans (mul-le-mul-right (2 ^ exponent b) (least b)) (le-trans (le-of-eq (sym (n .units))) (mul-le-mul-left 2 size-most))) in
-          let e = pow-back (23 + exponent b) 163 l in
+          let l : 2 ^ (23 + exponentField b) ≤ 2 ^ 163 = le-trans (le-of-eq (pow-add 2 23 (exponentField b))) (le-trans (mul-le-mul-right (2 ^ exponentField b) (least b)) (le-trans (le-of-eq (sym (n .units))) (mul-le-mul-left 2 (between-size a)))) in
+          let e = pow-back (23 + exponentField b) 163 l in
           omega arith
         where
-          least : (b : ℕ) → 2 ^ 23 ≤ digits b
+          least : (b : ℕ) → 2 ^ 23 ≤ significandOf b
           least b = omega arith
-
-  -- so the pattern is one of theirs
-  pub size-few : b < 141 * 8388608
-  size-few = let e = low-exponent in omega arith
 
   abbrev t : ℕ
   t = radians b
@@ -80,15 +72,15 @@ module _ (x : Float) (a : Accepts x) where
   Result = Both (mag x) (2 ^ 149) (plusOf ((t + 2 ^ 62) % 2 ^ 64)) (minusOf ((t + 2 ^ 62) % 2 ^ 64)) (plusOf t) (minusOf t) D 7 D
 
   -- a window has digits yet
-  far : 86 ≤ exponent b → 2 * mag x ≡ digits b * 2 ^ exponent b → Result
+  far : 86 ≤ exponentField b → 2 * mag x ≡ significandOf b * 2 ^ exponentField b → Result
   unfolding radians
   far h units =
-      let i = exponent b - 86 in
+      let i = exponentField b - 86 in
       let W = turnsOf i in
       let place : i < 55 = let l = low-exponent in omega arith in
-      let reduced : digits b * windowOf i % 2 ^ 64 ≡ digits b * W % 2 ^ 64 = ap (λ (n : ℕ). digits b * n % 2 ^ 64) (window-turns i place) ∙ mul-mod-rest (digits b) W in
-      let on : (digits b * windowOf i % 2 ^ 64 + 2 ^ 62) % 2 ^ 64 ≡ (digits b * W + 2 ^ 62) % 2 ^ 64 = ap (λ (n : ℕ). (n + 2 ^ 62) % 2 ^ 64) reduced ∙ add-rest (digits b * W) in
-      rw (on, reduced) (turns-arrived (mag x) (digits b) i (omega arith) (omega arith) halved)
+      let reduced : significandOf b * windowOf i % 2 ^ 64 ≡ significandOf b * W % 2 ^ 64 = ap (λ (n : ℕ). significandOf b * n % 2 ^ 64) (window-turns i place) ∙ mul-mod-rest (significandOf b) W in
+      let on : (significandOf b * windowOf i % 2 ^ 64 + 2 ^ 62) % 2 ^ 64 ≡ (significandOf b * W + 2 ^ 62) % 2 ^ 64 = ap (λ (n : ℕ). (n + 2 ^ 62) % 2 ^ 64) reduced ∙ add-rest (significandOf b * W) in
+      rw (on, reduced) (turns-arrived (mag x) (significandOf b) i (omega arith) (omega arith) halved)
     where
       mul-mod-rest : (m n : ℕ) → m * (n % 2 ^ 64) % 2 ^ 64 ≡ m * n % 2 ^ 64
       mul-mod-rest m n = sym (ap (λ (k : ℕ). k % 2 ^ 64) (split (n / 2 ^ 64) (n % 2 ^ 64) (omega arith)) ∙ add-mul-mod-self-right (m * (n % 2 ^ 64)) (m * (n / 2 ^ 64)) (2 ^ 64))
@@ -99,36 +91,36 @@ module _ (x : Float) (a : Accepts x) where
       add-rest : (n : ℕ) → (n % 2 ^ 64 + 2 ^ 62) % 2 ^ 64 ≡ (n + 2 ^ 62) % 2 ^ 64
       add-rest n = omega arith
 
-      halved : mag x ≡ digits b * 2 ^ (exponent b - 86 + 85)
+      halved : mag x ≡ significandOf b * 2 ^ (exponentField b - 86 + 85)
       halved =
-          let e : exponent b ≡ suc (exponent b - 86 + 85) = omega arith in
-          half (mag x) (digits b) (2 ^ (exponent b - 86 + 85)) (units ∙ ap (λ (n : ℕ). digits b * 2 ^ n) e ∙ ap (λ (n : ℕ). digits b * n) (pow-suc 2 (exponent b - 86 + 85)))
+          let e : exponentField b ≡ suc (exponentField b - 86 + 85) = omega arith in
+          half (mag x) (significandOf b) (2 ^ (exponentField b - 86 + 85)) (units ∙ ap (λ (n : ℕ). significandOf b * 2 ^ n) e ∙ ap (λ (n : ℕ). significandOf b * n) (pow-suc 2 (exponentField b - 86 + 85)))
         where
           half : (m d p : ℕ) → 2 * m ≡ d * (p * 2) → m ≡ d * p
           half m d p h = omega arith
 
   -- a window has none yet
-  near : mag x < 2 ^ 110 → exponent b ≤ 86 → Result
+  near : mag x < 2 ^ 110 → exponentField b ≤ 86 → Result
   unfolding radians
   near little h =
-      let none : exponent b - 86 ≡ 0 = omega arith in
-      rw (none, first-window, mul-zero (digits b)) (still-arrived (mag x) little)
+      let none : exponentField b - 86 ≡ 0 = omega arith in
+      rw (none, first-window, mul-zero (significandOf b)) (still-arrived (mag x) little)
 
-  under : exponent b < 86 → 2 * mag x ≡ digits b * 2 ^ exponent b → mag x < 2 ^ 110
+  under : exponentField b < 86 → 2 * mag x ≡ significandOf b * 2 ^ exponentField b → mag x < 2 ^ 110
   under l units =
-      let most : digits b * 2 ^ exponent b < 2 ^ 25 * 2 ^ 85 = lt-of-lt-of-le (mul-lt-mul-of-pos-right (few b) (pow-pos (exponent b))) (mul-le-mul-left (2 ^ 25) (pow-mono (le-of-suc-le-suc l))) in
+      let most : significandOf b * 2 ^ exponentField b < 2 ^ 25 * 2 ^ 85 = lt-of-lt-of-le (mul-lt-mul-of-pos-right (few b) (pow-pos (exponentField b))) (mul-le-mul-left (2 ^ 25) (pow-mono (le-of-suc-le-suc l))) in
       lt-of-le-of-lt (twice (mag x)) (lt-of-le-of-lt (le-of-eq units) most)
     where
-      few : (b : ℕ) → digits b < 2 ^ 25
+      few : (b : ℕ) → significandOf b < 2 ^ 25
       few b = omega arith
 
       twice : (m : ℕ) → m ≤ 2 * m
       twice m = omega arith
 
   pub radians-taken : Result
-  radians-taken = go (size-bits x (a .number)) (le-or-lt 86 (exponent b))
+  radians-taken = go (size-bits x (a .number)) (le-or-lt 86 (exponentField b))
     where
-      go : Normal x b ⊎ Subnormal x b → (86 ≤ exponent b) ⊎ (exponent b < 86) → Result
+      go : Normal x b ⊎ Subnormal x b → (86 ≤ exponentField b) ⊎ (exponentField b < 86) → Result
       go (inl n) (inl l) = far l (n .units)
       go (inl n) (inr l) = near (under l (n .units)) (le-of-lt l)
       go (inr s) l = near (lt-of-lt-of-le (s .few) (lit≤ tt)) (rw (s .none) (omega arith))

@@ -15,7 +15,7 @@ use Rattle.exact.proofs.Limits.{near-wider, Both, both-wider}
 use Rattle.exact.proofs.Quarter.{quarter, quarterUnit, fine, fine-pos}
 use Rattle.exact.proofs.Turns.{turned0, turned1, turned2, turned3}
 use Rattle.circle.specs.Kernel.{quarterSine}
-use Rattle.circle.specs.Wave.{placeOf, sizeOf}
+use Rattle.circle.specs.Wave.{forward, intoQuarter, placeOf, sizeOf}
 use Rattle.circle.proofs.Method.{D, part, mirrored, sine-near, cosine-near, mirrored-same}
 use Rattle.circle.proofs.Rounding.{quarter-most, quarter-least}
 use Rattle.circle.proofs.Pattern.{plusOf, minusOf}
@@ -59,11 +59,11 @@ module _ (t r : ℕ) (rest : t % 2 ^ 62 ≡ r) where
   digits = omega arith
 
   even-size : t / 2 ^ 62 % 2 ≡ 0 → sizeOf t ≡ quarterSine (r / 2 ^ 30)
-  unfolding sizeOf placeOf
+  unfolding sizeOf placeOf forward intoQuarter
   even-size e = rw (eq-eqb (t / 2 ^ 62 % 2) 0 e) (ap quarterSine digits)
 
   odd-size : t / 2 ^ 62 % 2 ≡ 1 → sizeOf t ≡ quarterSine (4294967295 - r / 2 ^ 30)
-  unfolding sizeOf placeOf
+  unfolding sizeOf placeOf forward intoQuarter
   odd-size e = rw (ne-eqb (t / 2 ^ 62 % 2) 0 (λ z. omega arith)) (ap (λ (n : ℕ). quarterSine (4294967295 - n)) digits)
 
   -- the sign, by the half of the turn
@@ -160,7 +160,7 @@ module _ (t : ℕ) (few : t < 2 ^ 64) where
   across = (t + 2 ^ 63) % 2 ^ 64
 
   same-size : sizeOf across ≡ sizeOf t
-  unfolding sizeOf placeOf
+  unfolding sizeOf placeOf forward intoQuarter
   same-size =
       let e : across / 2 ^ 62 % 2 ≡ t / 2 ^ 62 % 2 = omega arith in
       let f : across / 2 ^ 30 % 2 ^ 32 ≡ t / 2 ^ 30 % 2 ^ 32 = omega arith in

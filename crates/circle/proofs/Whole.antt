@@ -13,14 +13,14 @@ use Rattle.units.specs.Units.{mag, negative, P, N, Number}
 use Rattle.units.proofs.Naturals.{le-or-lt}
 use Rattle.fixed.specs.Horner.{alternating}
 use Rattle.fixed.specs.Rounded.{digitsOf, nearestBits}
-use Rattle.circle.specs.Kernel.{rest, slopeOf, quarterSine}
-use Rattle.circle.specs.Wave.{placeOf, sizeOf, waveBits, wave, sinPiOf, cosPiOf}
+use Rattle.circle.specs.Kernel.{kernelRest, slopeOf, quarterSine}
+use Rattle.circle.specs.Wave.{forward, intoQuarter, placeOf, sizeOf, waveBits, wave, sinPiOf, cosPiOf}
 use Rattle.circle.specs.Promise.{quarterBits, atQuarter}
 use Rattle.circle.proofs.Near.{sinPi-is, cosPi-is}
 
 -- at each quarter
 at-quarter : (i : ℕ) → i < 4 → waveBits (i * 2 ^ 62) ≡ getD quarterBits i 0
-unfolding waveBits sizeOf placeOf quarterSine slopeOf rest alternating nearestBits digitsOf leadingZeros
+unfolding waveBits sizeOf placeOf forward intoQuarter quarterSine slopeOf kernelRest alternating nearestBits digitsOf leadingZeros
 at-quarter zero h = refl
 at-quarter (suc zero) h = refl
 at-quarter (suc (suc zero)) h = refl

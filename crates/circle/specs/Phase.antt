@@ -1,18 +1,18 @@
--- The phase of an angle: how many turns it is, in units of 2 ^ -64, whole turns left out. Definitions only.
+-- The phase of an angle: how many turns it is, in units of 2 ^ -64, whole turns left out. A reader of the promises need not read this. Definitions only.
 use mathlib.Core.List.{List, [], _∷_}
 use Prim.Native.Nat.{ℕ, _+_, _-_, _*_, _/_, _%_, _^_}
 use lib.ListN.{getD}
 
--- of the float's size with the bit pattern b: its 24 digits, and the exponent that belongs to them
-abbrev pub digits : ℕ → ℕ
-digits b = b % 8388608 + 8388608
+-- of the float's size with the bit pattern b: its 24 digits, and the exponent field that belongs to them
+abbrev pub significandOf : ℕ → ℕ
+significandOf b = b % 8388608 + 8388608
 
-abbrev pub exponent : ℕ → ℕ
-exponent b = b / 8388608
+abbrev pub exponentField : ℕ → ℕ
+exponentField b = b / 8388608
 
 -- pi times that size: half as many turns, cut off
 unfoldable pub halfTurns : ℕ → ℕ
-halfTurns b = digits b * 2 ^ exponent b / 2 ^ 87 % 2 ^ 64
+halfTurns b = significandOf b * 2 ^ exponentField b / 2 ^ 87 % 2 ^ 64
 
 -- the binary digits of 1 / (2 pi), the turns of one radian, in words of 32 and after 64 zeros; tools/circle.py prints them
 abbrev pub words : List ℕ
@@ -27,4 +27,4 @@ windowOf i = (wordOf (i / 32) * 4294967296 + wordOf (i / 32 + 1)) * 2 ^ (i % 32)
 
 -- the size itself as an angle: its digits times the window at its exponent
 unfoldable pub radians : ℕ → ℕ
-radians b = digits b * windowOf (exponent b - 86) % 2 ^ 64
+radians b = significandOf b * windowOf (exponentField b - 86) % 2 ^ 64

@@ -1,15 +1,24 @@
--- The sine of a phase, a whole number of 2 ^ -64 turns below 2 ^ 64. Definitions only.
+-- What the programs compute: the sine of a phase, a whole number of 2 ^ -64 turns below 2 ^ 64. A reader of the promises need not read this: they name `sinPiOf` and the others, and say
+-- all that is promised of them. Definitions only.
 use Prim.Native.Nat.{ℕ, _+_, _-_, _*_, _/_, _%_, _^_}
-use mathlib.Core.Bool.{cond}
+use mathlib.Core.Bool.{Bool, cond}
 use lib.Dec.{eqb}
 use lib.Ieee.{Float, binary32, ofBits, toBits}
 use Rattle.fixed.specs.Rounded.{nearestBits}
 use Rattle.circle.specs.Kernel.{quarterSine}
 use Rattle.circle.specs.Phase.{halfTurns, radians}
 
--- how far into its quarter a phase is, in units of 2 ^ -32 quarters: from the quarter's beginning in the first and third, from its end in the others
+-- the first and the third quarter are read from their beginning, the others from their end
+unfoldable pub forward : ℕ → Bool
+forward t = eqb (t / 2 ^ 62 % 2) 0
+
+-- how far into its quarter a phase is, in units of 2 ^ -32 quarters
+unfoldable pub intoQuarter : ℕ → ℕ
+intoQuarter t = t / 2 ^ 30 % 2 ^ 32
+
+-- and where the quarter is read there
 unfoldable pub placeOf : ℕ → ℕ
-placeOf t = cond (eqb (t / 2 ^ 62 % 2) 0) (t / 2 ^ 30 % 2 ^ 32) (4294967295 - t / 2 ^ 30 % 2 ^ 32)
+placeOf t = cond (forward t) (intoQuarter t) (4294967295 - intoQuarter t)
 
 -- the size of the sine, in units of 2 ^ -32
 unfoldable pub sizeOf : ℕ → ℕ
@@ -23,15 +32,23 @@ waveBits t = cond (eqb (sizeOf t) 0) 0 (t / 2 ^ 63 * 2147483648 + nearestBits (s
 unfoldable pub wave : ℕ → Float
 wave t = ofBits binary32 (waveBits t)
 
+-- half a turn on from a phase, where the sign's bit is set
+unfoldable pub halfOn : ℕ → ℕ → ℕ
+halfOn t sign = (t + sign * 2 ^ 63) % 2 ^ 64
+
+-- a quarter on
+unfoldable pub quarterOn : ℕ → ℕ
+quarterOn t = (t + 2 ^ 62) % 2 ^ 64
+
 -- the sine of an angle below zero is that of its size, half a turn on
 abbrev pub sineOf : (ℕ → ℕ) → Float → Float
-sineOf phase x = let b = toBits binary32 x in wave ((phase (b % 2147483648) + b / 2147483648 * 2 ^ 63) % 2 ^ 64)
+sineOf phase x = let b = toBits binary32 x in wave (halfOn (phase (b % 2147483648)) (b / 2147483648))
 
 -- the cosine, whatever the sign, is the sine a quarter on
 abbrev pub cosineOf : (ℕ → ℕ) → Float → Float
-cosineOf phase x = let b = toBits binary32 x in wave ((phase (b % 2147483648) + 2 ^ 62) % 2 ^ 64)
+cosineOf phase x = let b = toBits binary32 x in wave (quarterOn (phase (b % 2147483648)))
 
--- what the four programs compute
+-- the four value functions
 unfoldable pub sinPiOf : Float → Float
 sinPiOf = sineOf halfTurns
 

@@ -3,10 +3,17 @@
 mod phase;
 
 ghost use mathlib.Core.Path.{_≡_};
-ghost use Prim.Native.Nat.{_+_, _-_, _*_, _/_, _%_, _^_, _<_, _≤_};
+ghost use Prim.Native.Nat.{_-_, _*_, _/_, _≤_};
+ghost use Rattle.units.specs.Answers.{Ends, floatBits};
 ghost use Rattle.circle.specs.Kernel.{quarterSine};
-ghost use Rattle.circle.specs.Wave.{placeOf, waveBits, wave};
+ghost use Rattle.circle.specs.Wave.{placeOf, waveBits, halfOn, quarterOn};
 ghost use Rattle.circle.specs.Promise.{SinPi, CosPi, Sin, Cos};
+
+// The pattern that the sizes of finite floats are below.
+const INFINITY: u32 = 0x7f80_0000;
+
+// The pattern of 8192.
+const LARGEST: u32 = 0x4600_0000;
 
 // One step of Horner's rule with alternating signs: the upper half of the product of two 32-bit numbers is taken away.
 fn step(c: u32, p: u32, z: u32) -> u32
@@ -53,74 +60,66 @@ fn wave_bits(phase: u64) -> u32
 }
 
 // The sine of a phase, or with the sign 1 of its opposite: half a turn on.
-fn sine(phase: u64, sign: u32) -> f32
+fn sine(phase: u64, sign: u32) -> u32
     requires { ⌜ sign ≤ 1 ⌝ }
-    ensures { λ r. ⌜ r ≡ wave ((phase + sign * 2 ^ 63) % 2 ^ 64) ⌝ }
+    ensures { λ r. ⌜ r ≡ waveBits (halfOn phase sign) ⌝ }
 {
-    f32::from_bits(wave_bits(std::num::wrapping_add_u64(phase, sign as u64 * 9223372036854775808)))
+    wave_bits(std::num::wrapping_add_u64(phase, sign as u64 * 9223372036854775808))
 }
 
 // The cosine: the sine a quarter on.
-fn cosine(phase: u64) -> f32
-    ensures { λ r. ⌜ r ≡ wave ((phase + 2 ^ 62) % 2 ^ 64) ⌝ }
+fn cosine(phase: u64) -> u32
+    ensures { λ r. ⌜ r ≡ waveBits (quarterOn phase) ⌝ }
 {
-    f32::from_bits(wave_bits(std::num::wrapping_add_u64(phase, 4611686018427387904)))
+    wave_bits(std::num::wrapping_add_u64(phase, 4611686018427387904))
 }
 
 // sin(pi x) for every finite x; code 1 and nothing written where x is a NaN or an infinity.
-pub fn sinpi(x: f32, out: &mut f32) -> u32
-    ensures { λ code. ⌜ SinPi x code (now (out .entry)) (now (out .exit)) ⌝ }
+pub fn sinpi(x: f32, out: &mut u32) -> u32
+    ensures { λ code. ⌜ Ends floatBits (SinPi x) code (now (out .entry)) (now (out .exit)) ⌝ }
 {
-    if f32::from_bits(0xff7f_ffff) <= x {
-        if x <= f32::from_bits(0x7f7f_ffff) {
-            let b = f32::to_bits(x);
-            *out = sine(phase::half_turns(b % 2147483648), b / 2147483648);
-            return 0;
-        }
-        return 1;
+    let b = fixed::bits_of(x);
+    let size = b % 2147483648;
+    if size < INFINITY {
+        *out = sine(phase::half_turns(size), b / 2147483648);
+        return 0;
     }
     1
 }
 
 // cos(pi x), likewise.
-pub fn cospi(x: f32, out: &mut f32) -> u32
-    ensures { λ code. ⌜ CosPi x code (now (out .entry)) (now (out .exit)) ⌝ }
+pub fn cospi(x: f32, out: &mut u32) -> u32
+    ensures { λ code. ⌜ Ends floatBits (CosPi x) code (now (out .entry)) (now (out .exit)) ⌝ }
 {
-    if f32::from_bits(0xff7f_ffff) <= x {
-        if x <= f32::from_bits(0x7f7f_ffff) {
-            *out = cosine(phase::half_turns(f32::to_bits(x) % 2147483648));
-            return 0;
-        }
-        return 1;
+    let size = fixed::bits_of(x) % 2147483648;
+    if size < INFINITY {
+        *out = cosine(phase::half_turns(size));
+        return 0;
     }
     1
 }
 
 // sin x, x from -8192 to 8192; code 1 and nothing written where x is anything else.
-pub fn sin(x: f32, out: &mut f32) -> u32
-    ensures { λ code. ⌜ Sin x code (now (out .entry)) (now (out .exit)) ⌝ }
+pub fn sin(x: f32, out: &mut u32) -> u32
+    ensures { λ code. ⌜ Ends floatBits (Sin x) code (now (out .entry)) (now (out .exit)) ⌝ }
 {
-    if -8192.0 <= x {
-        if x <= 8192.0 {
-            let b = f32::to_bits(x);
-            *out = sine(phase::radians(b % 2147483648), b / 2147483648);
-            return 0;
-        }
-        return 1;
+    let b = fixed::bits_of(x);
+    let size = b % 2147483648;
+    if size <= LARGEST {
+        *out = sine(phase::radians(size), b / 2147483648);
+        return 0;
     }
     1
 }
 
 // cos x, likewise.
-pub fn cos(x: f32, out: &mut f32) -> u32
-    ensures { λ code. ⌜ Cos x code (now (out .entry)) (now (out .exit)) ⌝ }
+pub fn cos(x: f32, out: &mut u32) -> u32
+    ensures { λ code. ⌜ Ends floatBits (Cos x) code (now (out .entry)) (now (out .exit)) ⌝ }
 {
-    if -8192.0 <= x {
-        if x <= 8192.0 {
-            *out = cosine(phase::radians(f32::to_bits(x) % 2147483648));
-            return 0;
-        }
-        return 1;
+    let size = fixed::bits_of(x) % 2147483648;
+    if size <= LARGEST {
+        *out = cosine(phase::radians(size));
+        return 0;
     }
     1
 }

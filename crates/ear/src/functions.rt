@@ -58,7 +58,7 @@ pub fn named(word: &[u8]) -> u32 {
 }
 
 // A function of one argument, at x.
-fn at(function: u32, x: f32, out: &mut f32) -> u32 {
+fn at(function: u32, x: f32, out: &mut u32) -> u32 {
     if function == SQRT {
         earmath::ear_sqrt(x, out)
     } else if function == RSQRT {
@@ -111,10 +111,10 @@ fn apart(i: usize) {
 fn each(function: u32, floats: &[f32]) {
     let mut i = 0;
     while i < floats.len() {
-        let mut r = 0.0;
+        let mut r = 0;
         let code = at(function, floats[i], &mut r);
         apart(i);
-        answer(code, patterns::pattern(r));
+        answer(code, r);
         i += 1;
     }
 }
@@ -122,23 +122,23 @@ fn each(function: u32, floats: &[f32]) {
 // The dot product of the first half with the second.
 fn dot(floats: &[f32]) {
     let half = floats.len() / 2;
-    let mut r = 0.0;
+    let mut r = 0;
     let code = earmath::ear_dot(&floats[0..half], &floats[half..], &mut r);
-    answer(code, patterns::pattern(r));
+    answer(code, r);
 }
 
-// The floats, each as an answer.
-fn list(floats: &[f32]) {
+// Results, each as an answer.
+fn list(results: &[u32]) {
     let mut i = 0;
-    while i < floats.len() {
+    while i < results.len() {
         apart(i);
-        answer(0, patterns::pattern(floats[i]));
+        answer(0, results[i]);
         i += 1;
     }
 }
 
 // The weight of each of the floats among all of them, or one refusal.
-fn weigh(floats: &[f32], weights: &mut [f32]) {
+fn weigh(floats: &[f32], weights: &mut [u32]) {
     let code = earmath::ear_softmax2(floats, weights);
     if code == 0 {
         list(weights);
@@ -148,7 +148,7 @@ fn weigh(floats: &[f32], weights: &mut [f32]) {
 }
 
 fn softmax2(floats: &[f32]) {
-    let mut weights = [0.0; 2048];
+    let mut weights = [0; 2048];
     let n = floats.len();
     if n <= 2048 {
         weigh(floats, &mut weights[0..n]);
@@ -164,8 +164,8 @@ fn loudness(floats: &[f32]) {
         );
         return;
     }
-    let t = patterns::pattern(floats[2]);
-    let c = patterns::pattern(floats[3]);
+    let t = fixed::bits_of(floats[2]);
+    let c = fixed::bits_of(floats[3]);
     let mut i = 4;
     while i < floats.len() {
         let mut r = 0;

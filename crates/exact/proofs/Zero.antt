@@ -1,10 +1,11 @@
 -- The first zero of cosine is between quarter / quarterUnit and the next fraction; so every enclosure of pi / 2 is near them.
-use mathlib.Core.Path.{_≡_, ap}
-use Prim.Native.Nat.{ℕ, suc, _+_, _*_, _^_, _≤_, _<_}
-use native.Mathlib.Nat.{le-of-lt, lt-of-not-le, le-dest, mul-comm, mul-pos, mul-le-mul, mul-le-mul-left, mul-le-mul-right, le-of-mul-le-mul-left, le-of-mul-le-mul-right, one-le-pow}
+use mathlib.Core.Path.{_≡_, ap, _∙_}
+use Prim.Native.Nat.{ℕ, suc, _+_, _-_, _*_, _/_, _^_, _≤_, _<_}
+use native.Mathlib.Nat.{le-of-lt, lt-of-not-le, le-dest, mul-comm, mul-pos, mul-le-mul, mul-le-mul-left, mul-le-mul-right, le-of-mul-le-mul-left, le-of-mul-le-mul-right, one-le-pow, div-mul-le-self, lt-div-mul-add}
 use native.Mathlib.Decide.{decLe}
 use native.Mathlib.Omega.{arith}
 use lib.Dec.{leb→le}
+use lib.Pow.{pow-add, pow-pos}
 use Rattle.exact.specs.Series.{partial, denominator, fourth}
 use Rattle.exact.specs.Circle.{QuarterTurn}
 use Rattle.exact.proofs.Series.{over-pos, over-scale, partial-scale}
@@ -135,6 +136,33 @@ quarter-turn = record {
     plus S b E F o l h =
         let less : S * F ≤ S * E = omega arith in
         omega (arith, mul-le-mul-left b (le-of-mul-le-mul-left less (omega arith)))
+
+-- what encloses an enclosure is one
+encloses : {c d w c′ d′ w′ : ℕ} → 0 < w → 0 < w′ → c′ * w ≤ c * w′ → (c + d) * w′ ≤ (c′ + d′) * w → QuarterTurn c d w → QuarterTurn c′ d′ w′
+encloses {c} {d} {w} {c′} {d′} {w′} pos pos′ low high h = record {
+  before = λ p q qpos l. h .before p q qpos (le-of-mul-le-mul-right (omega (arith, mul-le-mul-right w l, mul-le-mul-right q low)) pos′);
+  s = h .s;
+  t = h .t;
+  positive = h .positive;
+  up-to = le-of-mul-le-mul-right (omega (arith, mul-le-mul-right w′ (h .up-to), mul-le-mul-right (h .t) high)) pos;
+  after = h .after;
+}
+
+unit-split : (n : ℕ) → n ≤ 256 → quarterUnit ≡ 2 ^ n * 2 ^ (256 - n)
+unfolding quarterUnit
+unit-split n few = let e : 256 ≡ n + (256 - n) = omega arith in ap (λ (k : ℕ). 2 ^ k) e ∙ pow-add 2 n (256 - n)
+
+-- so there are enclosures as narrow as one likes: of the width 2 ^ -n for every n up to 256, pi / 2 cut off after n binary places
+pub narrow : (n : ℕ) → n ≤ 256 → QuarterTurn (quarter / 2 ^ (256 - n)) 1 (2 ^ n)
+narrow n few =
+    let c = quarter / 2 ^ (256 - n) in
+    encloses quarter-unit-pos (pow-pos n) (rw (unit-split n few) (low c quarter _ _ (div-mul-le-self quarter (2 ^ (256 - n))))) (rw (unit-split n few) (high c quarter _ _ (lt-div-mul-add (pow-pos (256 - n))))) quarter-turn
+  where
+    low : (c Q a b : ℕ) → c * b ≤ Q → c * (a * b) ≤ Q * a
+    low c Q a b h = omega (arith, mul-le-mul-right a h)
+
+    high : (c Q a b : ℕ) → Q < c * b + b → (Q + 1) * a ≤ (c + 1) * (a * b)
+    high c Q a b h = omega (arith, mul-le-mul-right a h)
 
 -- every enclosure c / w ≤ pi / 2 ≤ (c + d) / w starts at most at the next fraction, and ends at least at the fraction
 pub quarter-known : {c d w : ℕ} → 0 < w → QuarterTurn c d w → (c * quarterUnit ≤ suc quarter * w) × (quarter * w ≤ (c + d) * quarterUnit)

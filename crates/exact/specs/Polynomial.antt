@@ -1,4 +1,4 @@
--- Polynomials with whole coefficients, at a fraction. Definitions only.
+-- Polynomials with whole coefficients, at a fraction. A reader of the promises need not read this. Definitions only.
 use Prim.Native.Nat.{ℕ, pred, _+_, _*_, _^_}
 use mathlib.Core.List.{List, [], _∷_}
 

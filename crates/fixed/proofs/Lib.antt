@@ -5,3 +5,4 @@ pub mod Alternating
 pub mod Rounding
 pub mod Either
 pub mod Chains
+pub mod Dividing

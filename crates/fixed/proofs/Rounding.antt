@@ -16,6 +16,18 @@ use Rattle.units.proofs.Bits.{Is, signBit, put, put-positive}
 use Rattle.fixed.specs.Rounded.{Normal, digitsOf, nearestBits}
 
 -- ---- how many digits n has
+-- shifted by the leading zeros of its k + 1 digits, a number has its top digit set
+pub leading-shift : (k n : ℕ) → 0 < n → n < 2 ^ suc k → (leadingZeros (suc k) n ≤ k) × (2 ^ k ≤ n * 2 ^ leadingZeros (suc k) n) × (n * 2 ^ leadingZeros (suc k) n < 2 ^ suc k)
+leading-shift k n pos h =
+    let (j, e, l, u) = leading-top (suc k) n pos h in
+    let z = leadingZeros (suc k) n in
+    let e' : j + z ≡ k = omega arith in
+    let e'' : suc j + z ≡ suc k = omega arith in (
+      omega arith,
+      le-trans (le-of-eq (ap (λ (i : ℕ). 2 ^ i) (sym e') ∙ pow-add 2 j z)) (mul-le-mul-right (2 ^ z) l),
+      lt-of-lt-of-le (mul-lt-mul-of-pos-right u (pow-pos z)) (le-of-eq (sym (pow-add 2 (suc j) z) ∙ ap (λ (i : ℕ). 2 ^ i) e'')),
+    )
+
 -- n has 64 - z digits
 pub record Placed (n z : ℕ) : Type 0 where
   pub small : z ≤ 63
@@ -24,16 +36,7 @@ pub record Placed (n z : ℕ) : Type 0 where
 
 -- as its leading zeros say
 pub placed : (n : ℕ) → 0 < n → n < 2 ^ 64 → Placed n (leadingZeros 64 n)
-placed n pos h =
-    let (j, e, l, u) = leading-top 64 n pos h in
-    let z = leadingZeros 64 n in
-    let e' : j + z ≡ 63 = omega arith in
-    let e'' : suc j + z ≡ 64 = omega arith in
-    record {
-      small = omega arith;
-      low = le-trans (le-of-eq (ap (λ (i : ℕ). 2 ^ i) (sym e') ∙ pow-add 2 j z)) (mul-le-mul-right (2 ^ z) l);
-      high = lt-of-lt-of-le (mul-lt-mul-of-pos-right u (pow-pos z)) (le-of-eq (sym (pow-add 2 (suc j) z) ∙ ap (λ (i : ℕ). 2 ^ i) e''));
-    }
+placed n pos h = let (s, l, u) = leading-shift 63 n pos h in record { small = s; low = l; high = u }
 
 -- a number that reaches 2 ^ 63 when multiplied by 2 ^ e has at most e leading zeros
 pub few-zeros : (n z e : ℕ) → Placed n z → 2 ^ 63 ≤ n * 2 ^ e → z ≤ e

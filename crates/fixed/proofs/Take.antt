@@ -15,7 +15,8 @@ use Rattle.units.specs.Units.{mag, negative, Number}
 use Rattle.units.proofs.Naturals.{le-or-lt, pow-back-lt}
 use Rattle.units.proofs.Size.{mag-lt}
 use Rattle.units.proofs.Bits.{signBit, pattern-subnormal, pattern-normal}
-use Rattle.fixed.specs.Parts.{Positive, Apart, exponent, significand}
+use Rattle.units.specs.Units.{Positive}
+use Rattle.fixed.specs.Parts.{Apart, exponent, significand}
 
 pub no-nan : (x : Float) → Number x → T (not (isNan x))
 unfolding isNan

@@ -1,4 +1,4 @@
--- A polynomial by Horner's rule in whole numbers. Definitions only.
+-- A polynomial by Horner's rule in whole numbers. A reader of the promises need not read this. Definitions only.
 use Prim.Native.Nat.{ℕ, _+_, _-_, _*_, _/_}
 use mathlib.Core.List.{List, [], _∷_}
 

@@ -1,15 +1,8 @@
--- A float above zero, taken apart. Definitions only.
+-- A float above zero, taken apart. A reader of the promises need not read this. Definitions only.
 use mathlib.Core.Path.{_≡_}
 use Prim.Native.Nat.{ℕ, _*_, _/_, _^_, _≤_, _<_}
-use mathlib.Core.Bool.{false}
 use lib.Ieee.{Float, size}
-use Rattle.units.specs.Units.{Number, mag, negative}
-
--- x is a finite float above zero
-pub record Positive (x : Float) : Type 0 where
-  pub number : Number x
-  pub sign : negative x ≡ false
-  pub above : 0 < mag x
+use Rattle.units.specs.Units.{mag}
 
 -- x is m * 2 ^ (e - 173): a significand of 24 digits, the first of them set, and an exponent; subnormals have one too
 pub record Apart (x : Float) (m e : ℕ) : Type 0 where

@@ -1,4 +1,4 @@
--- The float nearest to a whole number times a power of two. Definitions only.
+-- The float nearest to a whole number times a power of two. A reader of the promises need not read this. Definitions only.
 use Prim.Native.Nat.{ℕ, _+_, _-_, _*_, _/_, _^_, _≤_, _<_}
 use mathlib.Core.Bool.{cond}
 use lib.Count.{leadingZeros}

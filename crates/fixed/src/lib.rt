@@ -1,8 +1,11 @@
 // Reading a float's bits, taking it apart into whole numbers, and putting one together.
 
+pub mod division;
+
 ghost use mathlib.Core.Path.{_≡_};
 ghost use lib.Ieee.{binary32, toBits};
-ghost use Rattle.fixed.specs.Parts.{Positive, Apart};
+ghost use Rattle.units.specs.Units.{Positive};
+ghost use Rattle.fixed.specs.Parts.{Apart};
 ghost use Rattle.fixed.specs.Rounded.{Normal, nearestBits};
 
 // The bit pattern of every float, 0x7fc00000 of a NaN. That one comparison is all that is asked of the float unit, and none of its modes

@@ -4,5 +4,4 @@ pub mod Reduction
 pub mod Order
 pub mod Rounding
 pub mod Relative
-pub mod Range
 pub mod Logarithm

@@ -1,25 +1,24 @@
 -- The logarithm: method, reduction and rounding joined to the promise. Assumes nothing.
 use mathlib.Core.Path.{_≡_, refl, sym, ap, _∙_, subst}
-use mathlib.Core.Logic.{_⊎_, inl, inr}
+use mathlib.Core.Logic.{inl, inr}
 use mathlib.Core.Bool.{Bool, true, cond}
 use Prim.Native.Nat.{ℕ, _+_, _-_, _*_, _^_, _<_}
-use native.Mathlib.Nat.{le-of-eq, lt-of-lt-of-le, add-le-add, zero-add}
+use native.Mathlib.Nat.{le-of-eq, add-le-add, zero-add}
 use native.Mathlib.Omega.{arith}
-use lib.Dec.{lit<}
-use lib.Pow.{pow-pos}
-use borrow.Author.Tests.{lt-ltb, le-ltb}
 use lib.Ieee.{Float, binary32, ofBits}
 use Rattle.units.specs.Units.{mag, P, N, Number, Le}
 use Rattle.units.proofs.Naturals.{le-or-lt}
-use Rattle.units.proofs.Signs.{plus-of, minus-of}
-use Rattle.units.proofs.Answers.{given, declined}
+use Rattle.units.proofs.Signs.{one-sided, plus-of, minus-of}
+use Rattle.units.specs.Answers.{Ends, floatBits}
+use Rattle.units.proofs.Answers.{given, declined, written, untouched}
 use Rattle.fixed.specs.Rounded.{nearestBits}
 use Rattle.fixed.proofs.Rounding.{is-units, is-positive, zero-bits}
-use Rattle.logs.specs.Fixed.{Accepts, FixedLog2, fixedOf}
-use Rattle.logs.specs.Log2.{Near, Log2, atOne, distanceOf, signOf, roundedBits, log2Of}
+use Rattle.logs.specs.Log2.{Accepts, NearLog, log2ErrorNum, log2ErrorDen, Log2}
+use Rattle.logs.specs.Value.{fixedOf, atOne, stepsAbove, stepsBelow, distanceOf, roundedBits, log2Of}
+use Rattle.logs.specs.Fixed.{FixedLog2}
 use Rattle.logs.proofs.Reduction.{reading, whole-fixed}
 use Rattle.logs.proofs.Order.{fixed-least, fixed-most, fixed-order}
-use Rattle.logs.proofs.Rounding.{normal, unitsOf, zero-units, units-order, near-most, near-least, whole-units}
+use Rattle.logs.proofs.Rounding.{normal, unitsOf, zero-units, units-order, near-most, near-least, whole-units, sign-above, sign-below, rounded-back}
 use Rattle.logs.proofs.Relative.{Within, fixed-below, fixed-above, within, near-below, near-above}
 
 -- ---- in fixed point
@@ -33,25 +32,25 @@ fixed-promised x w a e =
 -- it has the units of its distance, on one side or on the other
 record Steps (w : ℕ) (r : Float) : Type 0 where
   number : Number r
-  plus : P r ≡ unitsOf (w - atOne)
-  minus : N r ≡ unitsOf (atOne - w)
+  plus : P r ≡ unitsOf (stepsAbove w)
+  minus : N r ≡ unitsOf (stepsBelow w)
 
 steps : (w : ℕ) → w < 2 ^ 63 → Steps w (ofBits binary32 (roundedBits w))
-unfolding roundedBits signOf
+unfolding roundedBits
 steps w few = elim (le-or-lt atOne w) [
   | inl h ↦
-      let d : distanceOf w ≡ w - atOne = omega arith in
-      let i = is-positive (w - atOne) 135 (omega arith) (normal (w - atOne)) in
-      rw (le-ltb w atOne h, d, zero-add)
-      (record { number = i .number; plus = plus-of _ (i .sign) ∙ i .units; minus = minus-of _ (i .sign) ∙ sym (zero-units (atOne - w) (omega arith)) })
+      let d : distanceOf w ≡ stepsAbove w = omega arith in
+      let i = is-positive (stepsAbove w) 135 (omega arith) (normal (stepsAbove w)) in
+      rw (sign-above w h, d, zero-add)
+      (record { number = i .number; plus = plus-of _ (i .sign) ∙ i .units; minus = minus-of _ (i .sign) ∙ sym (zero-units (stepsBelow w) (omega arith)) })
   | inr h ↦
-      let d : distanceOf w ≡ atOne - w = omega arith in
-      let r = ofBits binary32 (2147483648 + nearestBits (atOne - w) 135) in
-      let i = is-units (atOne - w) 135 (omega arith) (normal (atOne - w)) true (omega arith) in
-      rw (lt-ltb w atOne h, d)
+      let d : distanceOf w ≡ stepsBelow w = omega arith in
+      let r = ofBits binary32 (2147483648 + nearestBits (stepsBelow w) 135) in
+      let i = is-units (stepsBelow w) 135 (omega arith) (normal (stepsBelow w)) true (omega arith) in
+      rw (sign-below w h, d)
       (record {
         number = i .number;
-        plus = ap (λ (s : Bool). cond s 0 (mag r)) (i .sign) ∙ sym (zero-units (w - atOne) (omega arith));
+        plus = ap (λ (s : Bool). cond s 0 (mag r)) (i .sign) ∙ sym (zero-units (stepsAbove w) (omega arith));
         minus = ap (λ (s : Bool). cond s (mag r) 0) (i .sign) ∙ i .units;
       })
 ]
@@ -72,39 +71,32 @@ module _ (x : Float) (a : Accepts x) where
   -- within 33 parts in 2 ^ 29 of the logarithm, relatively: the strongest law of the result
   pub log2-relative : Within 33 (2 ^ 29) (mag x) (2 ^ 149) (P (log2Of x)) (N (log2Of x))
   log2-relative =
-      let pos : 0 < mag x = lt-of-lt-of-le (lit< tt) (a .normal) in
       rw (made .plus, made .minus)
-      (within (mag x) (2 ^ 149) (2 ^ 95) (w - atOne) (atOne - w) (unitsOf (w - atOne)) (unitsOf (atOne - w)) refl
-      (near-most (w - atOne) (omega (arith, few))) (near-least (w - atOne) (omega (arith, few))) (near-most (atOne - w) (omega arith)) (near-least (atOne - w) (omega arith))
-      (fixed-below (mag x) w pos (reading x a)) (fixed-above (mag x) w pos (reading x a)))
+      (within (mag x) (2 ^ 149) (2 ^ 95) (stepsAbove w) (stepsBelow w) (unitsOf (stepsAbove w)) (unitsOf (stepsBelow w)) refl
+      (near-most (stepsAbove w) (omega (arith, few))) (near-least (stepsAbove w) (omega (arith, few))) (near-most (stepsBelow w) (omega arith)) (near-least (stepsBelow w) (omega arith))
+      (fixed-below (mag x) w (reading x a)) (fixed-above (mag x) w (reading x a)))
 
-  one-sided : (N (log2Of x) ≡ 0) ⊎ (P (log2Of x) ≡ 0)
-  one-sided = elim (le-or-lt atOne w) [
-    | inl h ↦ inl (made .minus ∙ zero-units (atOne - w) (omega arith))
-    | inr h ↦ inr (made .plus ∙ zero-units (w - atOne) (omega arith))
-  ]
-
-  log2-near : Near 1 (2 ^ 21) x (log2Of x)
+  log2-near : NearLog log2ErrorNum log2ErrorDen x (log2Of x)
   log2-near = record {
-    least = λ p q pos h b. near-below (mag x) (2 ^ 149) (P (log2Of x)) (N (log2Of x)) p q (pow-pos 149) pos one-sided log2-relative (b .least) (b .most);
-    most = λ p q pos h b. near-above (mag x) (2 ^ 149) (P (log2Of x)) (N (log2Of x)) p q (pow-pos 149) pos one-sided log2-relative (b .least) (b .most);
+    least = λ p q h b. near-below (mag x) (2 ^ 149) (P (log2Of x)) (N (log2Of x)) p q (one-sided (log2Of x)) log2-relative (b .least) (b .most);
+    most = λ p q h b. near-above (mag x) (2 ^ 149) (P (log2Of x)) (N (log2Of x)) p q (one-sided (log2Of x)) log2-relative (b .least) (b .most);
   }
 
   log2-whole : (k : ℕ) → mag x ≡ 2 ^ k → P (log2Of x) + 149 * 2 ^ 149 ≡ k * 2 ^ 149 + N (log2Of x)
   log2-whole k e =
       let f = whole-fixed x a k e in
-      rw (made .plus, made .minus, whole-units (w - atOne) (omega (arith, few)) (k - 149) (omega arith), whole-units (atOne - w) (omega arith) (149 - k) (omega arith))
+      rw (made .plus, made .minus, whole-units (stepsAbove w) (omega (arith, few)) (k - 149) (omega arith), whole-units (stepsBelow w) (omega arith) (149 - k) (omega arith))
       (multiples (k - 149) 149 k (149 - k) (2 ^ 149) (omega arith))
     where
       multiples : (b c d e u : ℕ) → b + c ≡ d + e → b * u + c * u ≡ d * u + e * u
       multiples b c d e u h = omega (arith, ap (λ (n : ℕ). n * u) h)
 
   log2-one : mag x ≡ 2 ^ 149 → log2Of x ≡ ofBits binary32 0
-  unfolding log2Of roundedBits signOf
+  unfolding log2Of roundedBits
   log2-one e =
       let f = whole-fixed x a 149 e in
       let h : w ≡ atOne = omega arith in
-      rw (le-ltb w atOne (le-of-eq (sym h)), zero-bits (distanceOf w) 135 (omega arith)) refl
+      rw (sign-above w (le-of-eq (sym h)), zero-bits (distanceOf w) 135 (omega arith)) refl
 
 -- ---- the whole promise, of an accepted x and of any other
 log2-order : (x : Float) → Accepts x → (x′ : Float) → Accepts x′ → Le x′ x → Le (log2Of x′) (log2Of x)
@@ -114,26 +106,34 @@ log2-order x a x′ a′ l =
     let h = fixed-order x x′ a a′ l in
     let few-x = few x a in
     rw (r .plus, r .minus, r′ .plus, r′ .minus)
-    (add-le-add (units-order (fixedOf x′ - atOne) (fixedOf x - atOne) (omega arith) (omega arith)) (units-order (atOne - fixedOf x) (atOne - fixedOf x′) (omega arith) (omega arith)))
+    (add-le-add (units-order (stepsAbove (fixedOf x′)) (stepsAbove (fixedOf x)) (omega arith) (omega arith)) (units-order (stepsBelow (fixedOf x)) (stepsBelow (fixedOf x′)) (omega arith) (omega arith)))
 
--- of an accepted x
-pub promised : (x before after : Float) → Accepts x → after ≡ log2Of x → Log2 x 0 before after
-promised x before after a e =
-    subst (λ (r : Float). Log2 x 0 before r) (sym e)
-    (record {
-      answers = given log2Of x before (log2Of x) a refl (made x a .number);
-      near = λ h. log2-near x a;
-      whole = λ h. log2-whole x a;
-      one = λ h. log2-one x a;
-      order = λ h. log2-order x a;
-    })
+-- code 0 and the value
+promised : (x : Float) → Accepts x → Log2 x 0 (log2Of x)
+promised x a = record {
+  answers = given log2Of x (log2Of x) a refl (made x a .number);
+  near = λ h. log2-near x a;
+  whole = λ h. log2-whole x a;
+  one = λ h. log2-one x a;
+  order = λ h. log2-order x a;
+}
 
--- of any other
-pub refused : (x before : Float) → ¬ Accepts x → Log2 x 1 before before
-refused x before n = record {
-  answers = declined log2Of x before n;
+-- code 1
+refused : (x : Float) → ¬ Accepts x → Log2 x 1 (log2Of x)
+refused x n = record {
+  answers = declined log2Of x (log2Of x) n;
   near = λ h. absurd (n h);
   whole = λ h. absurd (n h);
   one = λ h. absurd (n h);
   order = λ h. absurd (n h);
 }
+
+-- ---- how the call ends
+-- the pattern that is written is the value's
+pub success : (x : Float) {before after : ℕ} → Accepts x → after ≡ roundedBits (fixedOf x) → Ends floatBits (Log2 x) 0 before after
+unfolding log2Of
+success x a e = written (log2Of x) (promised x a) (e ∙ sym (rounded-back (fixedOf x) (few x a)))
+
+-- nothing is written
+pub refusal : (x : Float) {before : ℕ} → ¬ Accepts x → Ends floatBits (Log2 x) 1 before before
+refusal x n = untouched 1 (log2Of x) (λ z. omega arith) (refused x n)

@@ -4,7 +4,7 @@ use mathlib.Core.Path.{_≡_, sym, ap}
 use mathlib.Core.Bool.{Bool, true, false, _&&_}
 use mathlib.Core.List.{List, [], _∷_}
 use Prim.Native.Nat.{ℕ, _+_, _-_, _*_, _^_, _≤_, _<_}
-use native.Mathlib.Nat.{le-trans, le-of-eq, mul-le-mul-left, mul-le-mul-right, one-le-mul, one-le-pow, pow-suc}
+use native.Mathlib.Nat.{le-trans, le-of-eq, mul-le-mul-left, mul-le-mul-right, one-le-mul, pow-suc}
 use native.Mathlib.Omega.{arith}
 use lib.Dec.{T, lit<}
 use lib.ListN.{length}
@@ -24,8 +24,8 @@ pub record Close (n d F : ℕ) : Type 0 where
   pub most : AtMost n d ((2 ^ 32 + 5) * F) 0 (2 ^ 86)
 
 -- the same of n / d written with other numbers
-pub close-same : {n d n' d' F : ℕ} → 0 < n → 0 < d → n * d' ≡ n' * d → Close n d F → Close n' d' F
-close-same npos dpos e c = record { least = least-of-more npos (le-of-eq e) (c .least); most = most-of-less dpos (le-of-eq (sym e)) (c .most) }
+pub close-same : {n d n' d' F : ℕ} → 0 < d' → n * d' ≡ n' * d → Close n d F → Close n' d' F
+close-same pos e c = record { least = least-of-more pos (le-of-eq e) (c .least); most = most-of-less pos (le-of-eq (sym e)) (c .most) }
 
 -- ---- the floors: what Horner's rule makes of five coefficients at v / d ≤ 1 / 16, against the exact polynomial
 module _ (d v c b : ℕ) (cs : List ℕ) (dpos : 0 < d) (near : 16 * v ≤ d) (few : length cs ≤ 3) (large : 5 * 2 ^ 28 ≤ c) where
@@ -60,9 +60,6 @@ module _ (cs ds bs plus minus : List ℕ) (unit : ℕ) where
       (x d z E : ℕ) (dpos : 0 < d) (near : 16 * x ≤ d) (at-z : z + value 5 minus x d ≡ value 5 plus x d) (rest : E + value 1 ds x d ≡ value 1 cs x d) (Epos : 0 < E) (upos : 0 < unit) where
     abbrev q : ℕ
     q = unit * 2 ^ 32 * d ^ 5
-
-    qpos : 0 < q
-    qpos = one-le-mul (one-le-mul upos (lit< tt)) (one-le-pow 5 d dpos)
 
     first : Bool
     first = exponent 1 cs ds bs 5 plus minus unit (2 ^ 32 - 5) (2 ^ 32) 12 upper (2 ^ 48) 16 0 (1 ∷ []) true
@@ -102,8 +99,8 @@ module _ (cs ds bs plus minus : List ℕ) (unit : ℕ) where
       -- then F is close to the logarithm
       pub close : 5 * F ≤ 3 * 2 ^ 54 → Close (value 1 bs x d) E F
       close h = record {
-        least = least-of-smaller qpos (rw (at-Y, q-is) (before (d ^ 4) low)) (below-t (small h));
-        most = most-of-larger qpos (rw (at-Y, q-is) (after (d ^ 4) high)) above-t;
+        least = least-of-smaller (lit< tt) (rw (at-Y, q-is) (before (d ^ 4) low)) (below-t (small h));
+        most = most-of-larger (lit< tt) (rw (at-Y, q-is) (after (d ^ 4) high)) above-t;
       }
         where
           before : (K : ℕ) → F * K ≤ Y → (2 ^ 32 - 5) * F * (c * (2 ^ 86 * K)) + 0 * 2 ^ 86 ≤ (2 ^ 32 - 5) * (c * Y) * 2 ^ 86 + 0 * (c * (2 ^ 86 * K))

@@ -2,7 +2,7 @@
 use mathlib.Core.Path.{_≡_, refl, sym, ap, _∙_, subst}
 use mathlib.Core.Logic.{inl, inr}
 use Prim.Native.Nat.{ℕ, _+_, _*_, _^_, _≤_, _<_}
-use native.Mathlib.Nat.{le-of-eq, le-of-lt, eq-or-lt-of-le, lt-of-lt-of-le, mul-le-mul-right, mul-pos}
+use native.Mathlib.Nat.{le-of-eq, le-of-lt, eq-or-lt-of-le, mul-le-mul-right}
 use native.Mathlib.Omega.{arith}
 use lib.Dec.{lit<, lit≤}
 use lib.Ieee.{Float, binary32, toBits}
@@ -15,7 +15,9 @@ use Rattle.units.specs.Units.{mag, Le}
 use Rattle.units.proofs.Signs.{size-sum}
 use Rattle.units.proofs.Gaps.{next-above}
 use Rattle.units.proofs.Bits.{pattern, pattern-normal}
-use Rattle.logs.specs.Fixed.{Accepts, fixedBits, fixedOf, fixedError}
+use Rattle.logs.specs.Log2.{Accepts}
+use Rattle.logs.specs.Value.{fixedBits, fixedOf}
+use Rattle.logs.specs.Fixed.{fixedError}
 use Rattle.logs.proofs.Reduction.{reading, positive}
 
 -- ---- two floats are apart
@@ -56,8 +58,8 @@ module _ (x x′ : Float) (a : Accepts x) (a′ : Accepts x′) where
   rises l =
       let g = gap x x′ a a′ l in
       let t : AtLeast (2 ^ 24 + 1) (2 ^ 24) (2 ^ 30) 0 (2 ^ 54) = least-of-smaller (lit< tt) (lit≤ tt) tick in
-      let above = least-of-more (mul-pos (lt-of-lt-of-le (lit< tt) (a′ .normal)) (lit< tt)) (crossed (mag x) (mag x′) g) (least-mul (fixed-least x′ a′) t) in
-      apart (fixedOf x) (fixedOf x′) (exponents-over (lit< tt) above (fixed-most x a))
+      let above = least-of-more (lit< tt) (crossed (mag x) (mag x′) g) (least-mul (fixed-least x′ a′) t) in
+      apart (fixedOf x) (fixedOf x′) (exponents-over above (fixed-most x a))
     where
       crossed : (X X′ : ℕ) → X′ * (2 ^ 24 + 1) ≤ X * 2 ^ 24 → X′ * (2 ^ 24 + 1) * 2 ^ 22 ≤ X * (2 ^ 22 * 2 ^ 24)
       crossed X X′ h = omega arith

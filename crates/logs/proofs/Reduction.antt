@@ -3,10 +3,10 @@
 use mathlib.Core.Path.{_≡_, sym, ap, _∙_}
 use mathlib.Core.Logic.{_⊎_, inl, inr}
 use Prim.Native.Nat.{ℕ, suc, _+_, _-_, _*_, _/_, _%_, _^_, _≤_, _<_}
-use native.Mathlib.Nat.{le-trans, le-of-eq, lt-of-lt-of-le, lt-of-le-of-lt, add-mul, mul-le-mul-right, mul-pos, pow-suc}
+use native.Mathlib.Nat.{le-trans, le-of-eq, lt-of-lt-of-le, lt-of-le-of-lt, add-mul, mul-le-mul-right, pow-suc}
 use native.Mathlib.Omega.{arith}
 use lib.Dec.{lit<}
-use lib.Pow.{pow-add, pow-pos}
+use lib.Pow.{pow-add}
 use lib.Ieee.{Float, binary32, toBits}
 use Rattle.exact.specs.Power.{AtMost, AtLeast}
 use Rattle.exact.proofs.Power.{at-most, at-least, most-of-less, least-of-more, most-of-larger, least-of-smaller, most-shift, least-shift}
@@ -15,21 +15,23 @@ use Rattle.units.proofs.Naturals.{le-or-lt, pow-back-lt}
 use Rattle.units.proofs.Signs.{sign-plus}
 use Rattle.units.proofs.Size.{mag-lt}
 use Rattle.units.proofs.Bits.{pattern-normal}
-use Rattle.fixed.specs.Parts.{Positive, Apart}
+use Rattle.units.specs.Units.{Positive}
+use Rattle.fixed.specs.Parts.{Apart}
 use Rattle.fixed.proofs.Take.{apart-high, unique}
 use Rattle.logs.specs.Rows.{row}
-use Rattle.logs.specs.Fixed.{Accepts, slope, nearer, fixedBits, fixedOf}
+use Rattle.logs.specs.Log2.{Accepts}
+use Rattle.logs.specs.Value.{slope, nearer, fixedBits, fixedOf}
 use Rattle.logs.proofs.Method.{Close}
 use Rattle.logs.proofs.Sixteenths.{Sixteenth, row-passes, below-cut, above-cut}
 
 -- ---- exponents over one denominator
 -- a smaller exponent, from below
-pub least-over : {n d p m q p' m' : ℕ} → 0 < q → p' + m ≤ p + m' → AtLeast n d p m q → AtLeast n d p' m' q
-least-over {p} {m} {q} {p'} {m'} pos h = least-of-smaller pos (le-trans (le-of-eq (sym (add-mul p' m q))) (le-trans (mul-le-mul-right q h) (le-of-eq (add-mul p m' q))))
+pub least-over : {n d p m q p' m' : ℕ} → p' + m ≤ p + m' → AtLeast n d p m q → AtLeast n d p' m' q
+least-over {p} {m} {q} {p'} {m'} h b = least-of-smaller (b .root) (le-trans (le-of-eq (sym (add-mul p' m q))) (le-trans (mul-le-mul-right q h) (le-of-eq (add-mul p m' q)))) b
 
 -- a larger one, from above
-pub most-over : {n d p m q p' m' : ℕ} → 0 < q → p + m' ≤ p' + m → AtMost n d p m q → AtMost n d p' m' q
-most-over {p} {m} {q} {p'} {m'} pos h = most-of-larger pos (le-trans (le-of-eq (sym (add-mul p m' q))) (le-trans (mul-le-mul-right q h) (le-of-eq (add-mul p' m q))))
+pub most-over : {n d p m q p' m' : ℕ} → p + m' ≤ p' + m → AtMost n d p m q → AtMost n d p' m' q
+most-over {p} {m} {q} {p'} {m'} h b = most-of-larger (b .root) (le-trans (le-of-eq (sym (add-mul p m' q))) (le-trans (mul-le-mul-right q h) (le-of-eq (add-mul p' m q)))) b
 
 -- ---- what w steps say of X / 2 ^ 22: F is their distance from the whole number k
 pub record Read (X W : ℕ) : Type 0 where
@@ -47,14 +49,14 @@ doubled X m G h = omega arith
 halved : (X m G K M : ℕ) → K ≡ G * 2 ^ 23 → M ≡ m → X * 2 ^ 24 ≡ M * K → X * 2 ≡ m * G
 halved X m G K M h l f = let g : X * 2 ^ 24 ≡ m * (G * 2 ^ 23) = rw (h, l) at f in omega arith
 
-module _ (X m E W F : ℕ) (same : X * 2 ≡ m * 2 ^ E) (mpos : 0 < m) (small : 5 * F ≤ 3 * 2 ^ 54) (few : E ≤ 254) where
+module _ (X m E W F : ℕ) (same : X * 2 ≡ m * 2 ^ E) (small : 5 * F ≤ 3 * 2 ^ 54) (few : E ≤ 254) where
   -- m / 2 ^ 23 is above 1, and the logarithm is added
   added : W ≡ E * 2 ^ 54 + F → Close m (2 ^ 23) F → Read X W
   added e c = record {
     k = E;
     F = F;
-    least = least-over (lit< tt) (omega arith) (least-of-more (mul-pos mpos (pow-pos E)) (le-of-eq (omega arith)) (least-shift E 0 (c .least)));
-    most = most-over (lit< tt) (omega arith) (most-of-less (lit< tt) (le-of-eq (omega arith)) (most-shift E 0 (c .most)));
+    least = least-over (omega arith) (least-of-more (lit< tt) (le-of-eq (omega arith)) (least-shift E 0 (c .least)));
+    most = most-over (omega arith) (most-of-less (lit< tt) (le-of-eq (omega arith)) (most-shift E 0 (c .most)));
     place = inl e;
     small = small;
     few = omega arith;
@@ -65,8 +67,8 @@ module _ (X m E W F : ℕ) (same : X * 2 ≡ m * 2 ^ E) (mpos : 0 < m) (small : 
   taken e c = record {
     k = suc E;
     F = F;
-    least = least-over (lit< tt) (omega arith) (least-of-more (mul-pos mpos (pow-pos (suc E))) (le-of-eq twice) (least-shift (suc E) 0 (at-least (c .most))));
-    most = most-over (lit< tt) (omega arith) (most-of-less (lit< tt) (le-of-eq (sym twice)) (most-shift (suc E) 0 (at-most (c .least))));
+    least = least-over (omega arith) (least-of-more (lit< tt) (le-of-eq twice) (least-shift (suc E) 0 (at-least (lit< tt) (c .most))));
+    most = most-over (omega arith) (most-of-less (lit< tt) (le-of-eq (sym twice)) (most-shift (suc E) 0 (at-most (c .least))));
     place = inr e;
     small = small;
     few = omega arith;
@@ -142,8 +144,8 @@ module _ (b : ℕ) where
   -- a number of X units with this pattern is read
   read-bits : (X : ℕ) → X * 2 ^ 24 ≡ (b % 8388608 + 8388608) * 2 ^ (b / 8388608 + 23) → b / 8388608 ≤ 254 → Read X (fixedBits b)
   read-bits X e few = elim (le-or-lt 7 i) [
-    | inl h ↦ let s = sixteenth-below h in taken X m (b / 8388608) (fixedBits b) (below * slope b) same (omega arith) (s .small) few (fixed-below h) (s .close)
-    | inr h ↦ let s = sixteenth-above h in added X m (b / 8388608) (fixedBits b) (above * slope b) same (omega arith) (s .small) few (fixed-above h) (s .close)
+    | inl h ↦ let s = sixteenth-below h in taken X m (b / 8388608) (fixedBits b) (below * slope b) same (s .small) few (fixed-below h) (s .close)
+    | inr h ↦ let s = sixteenth-above h in added X m (b / 8388608) (fixedBits b) (above * slope b) same (s .small) few (fixed-above h) (s .close)
   ]
     where
       same : X * 2 ≡ m * 2 ^ (b / 8388608)

@@ -8,32 +8,32 @@ use lib.Dec.{lit<}
 use Rattle.exact.specs.Power.{AtMost, AtLeast}
 use Rattle.exact.proofs.Power.{most-of-larger, least-of-smaller, most-of-less, least-of-more, most-shift, least-shift}
 use Rattle.units.proofs.Naturals.{le-or-lt}
-use Rattle.logs.specs.Log2.{atOne}
+use Rattle.logs.specs.Value.{stepsAbove, stepsBelow}
 use Rattle.logs.proofs.Reduction.{Read, least-over, most-over}
 use Rattle.exact.proofs.Ratio.{exponents}
 
 -- ---- in fixed point: 15 parts in 2 ^ 33
 -- F is at most 3/2 of the distance from log2 1, since it is at most 3/5
-distance : (k F W : ℕ) → (W ≡ k * 2 ^ 54 + F) ⊎ (W + F ≡ k * 2 ^ 54) → 5 * F ≤ 3 * 2 ^ 54 → 2 * F ≤ 3 * (W - atOne + (atOne - W))
+distance : (k F W : ℕ) → (W ≡ k * 2 ^ 54 + F) ⊎ (W + F ≡ k * 2 ^ 54) → 5 * F ≤ 3 * 2 ^ 54 → 2 * F ≤ 3 * (stepsAbove W + stepsBelow W)
 distance k F W (inl e) s = elim (le-or-lt k 126) [ inl h ↦ omega arith | inr h ↦ omega arith ]
 distance k F W (inr e) s = elim (le-or-lt k 127) [ inl h ↦ omega arith | inr h ↦ omega arith ]
 
 twice : (p m q : ℕ) → 2 * p * q + m * (2 * q) ≡ p * (2 * q) + 2 * m * q
 twice p m q = omega arith
 
-module _ (w F : ℕ) (h : 2 * F ≤ 3 * (w - atOne + (atOne - w))) where
-  sum-below : (2 ^ 33 - 15) * (w - atOne) + 2 * (5 * F + 127 * 2 ^ 86) ≤ 2 * (2 ^ 32 * w + 0 * 2 ^ 86) + (2 ^ 33 + 15) * (atOne - w)
+module _ (w F : ℕ) (h : 2 * F ≤ 3 * (stepsAbove w + stepsBelow w)) where
+  sum-below : (2 ^ 33 - 15) * stepsAbove w + 2 * (5 * F + 127 * 2 ^ 86) ≤ 2 * (2 ^ 32 * w + 0 * 2 ^ 86) + (2 ^ 33 + 15) * stepsBelow w
   sum-below = omega arith
 
-  sum-above : 2 * (2 ^ 32 * w + 5 * F + 0 * 2 ^ 86) + (2 ^ 33 - 15) * (atOne - w) ≤ (2 ^ 33 + 15) * (w - atOne) + 2 * (0 + 127 * 2 ^ 86)
+  sum-above : 2 * (2 ^ 32 * w + 5 * F + 0 * 2 ^ 86) + (2 ^ 33 - 15) * stepsBelow w ≤ (2 ^ 33 + 15) * stepsAbove w + 2 * (0 + 127 * 2 ^ 86)
   sum-above = omega arith
 
-module _ (X W : ℕ) (Xpos : 0 < X) (r : Read X W) where
+module _ (X W : ℕ) (r : Read X W) where
   abbrev A : ℕ
-  A = W - atOne
+  A = stepsAbove W
 
   abbrev B : ℕ
-  B = atOne - W
+  B = stepsBelow W
 
   near-one : 2 * r .F ≤ 3 * (A + B)
   near-one = distance (r .k) (r .F) W (r .place) (r .small)
@@ -41,14 +41,14 @@ module _ (X W : ℕ) (Xpos : 0 < X) (r : Read X W) where
   -- from below
   pub fixed-below : AtLeast X (2 ^ 149) ((2 ^ 33 - 15) * A) ((2 ^ 33 + 15) * B) (2 ^ 87)
   fixed-below =
-      least-over (lit< tt) (sum-below W (r .F) near-one)
+      least-over (sum-below W (r .F) near-one)
       (least-of-smaller (lit< tt) (le-of-eq (twice (2 ^ 32 * W + 0 * 2 ^ 86) (5 * r .F + 127 * 2 ^ 86) (2 ^ 86)))
-      (least-of-more (mul-pos Xpos (lit< tt)) (le-of-eq (ap (λ (i : ℕ). i * 2 ^ 149) (mul-one X))) (least-shift 0 127 (r .least))))
+      (least-of-more (lit< tt) (le-of-eq (ap (λ (i : ℕ). i * 2 ^ 149) (mul-one X))) (least-shift 0 127 (r .least))))
 
   -- from above
   pub fixed-above : AtMost X (2 ^ 149) ((2 ^ 33 + 15) * A) ((2 ^ 33 - 15) * B) (2 ^ 87)
   fixed-above =
-      most-over (lit< tt) (sum-above W (r .F) near-one)
+      most-over (sum-above W (r .F) near-one)
       (most-of-larger (lit< tt) (le-of-eq (sym (twice (2 ^ 32 * W + 5 * r .F + 0 * 2 ^ 86) (0 + 127 * 2 ^ 86) (2 ^ 86))))
       (most-of-less (lit< tt) (le-of-eq (ap (λ (i : ℕ). i * 2 ^ 149) (sym (mul-one X)))) (most-shift 0 127 (r .most))))
 
@@ -71,8 +71,8 @@ module _ (X U Q A B p n : ℕ) (whole : U ≡ Q * 2 ^ 54)
   -- the float is within 33 parts in 2 ^ 29 where the fixed point is within 15 in 2 ^ 33
   pub within : AtLeast X U ((2 ^ 33 - 15) * A) ((2 ^ 33 + 15) * B) (2 ^ 87) → AtMost X U ((2 ^ 33 + 15) * A) ((2 ^ 33 - 15) * B) (2 ^ 87) → Within 33 (2 ^ 29) X U p n
   within l h = record {
-    least = least-of-smaller (lit< tt) (rw whole (add-le-add (scale-most p A Q (2 ^ 29 - 33) p-most) (scale-least n B Q (2 ^ 29 + 33) n-least))) l;
-    most = most-of-larger (lit< tt) (rw whole (add-le-add (scale-least p A Q (2 ^ 29 + 33) p-least) (scale-most n B Q (2 ^ 29 - 33) n-most))) h;
+    least = least-of-smaller (mul-pos (l .per) (lit< tt)) (rw whole (add-le-add (scale-most p A Q (2 ^ 29 - 33) p-most) (scale-least n B Q (2 ^ 29 + 33) n-least))) l;
+    most = most-of-larger (mul-pos (h .per) (lit< tt)) (rw whole (add-le-add (scale-least p A Q (2 ^ 29 + 33) p-least) (scale-most n B Q (2 ^ 29 - 33) n-most))) h;
   }
 
 -- ---- and so within 2 ^ -21 of |log2 x|, however that is bounded: |log2 x| ≤ s / t
@@ -104,15 +104,15 @@ module _ (p n s t U : ℕ) where
   negative-side : p ≡ 0 → 0 * (U * ((2 ^ 29 + 33) * (2 ^ 29 - 33))) + n * (2 ^ 29 * (2 ^ 29 - 33)) * t ≤ p * (2 ^ 29 * (2 ^ 29 + 33)) * t + s * (U * ((2 ^ 29 + 33) * (2 ^ 29 - 33))) → (p + n) * t ≤ 2 * (s * U)
   negative-side e h = let z : p * t ≡ 0 = rw (e, zero-mul) refl in omega arith
 
-module _ (X U p n s t : ℕ) (Upos : 0 < U) (tpos : 0 < t) (one-sided : (n ≡ 0) ⊎ (p ≡ 0)) (w : Within 33 (2 ^ 29) X U p n) (low : AtLeast X U 0 s t) (high : AtMost X U s 0 t) where
-  wide : 0 < U * ((2 ^ 29 + 33) * (2 ^ 29 - 33))
-  wide = mul-pos Upos (lit< tt)
+module _ (X U p n s t : ℕ) (one-sided : (p ≡ 0) ⊎ (n ≡ 0)) (w : Within 33 (2 ^ 29) X U p n) (low : AtLeast X U 0 s t) (high : AtMost X U s 0 t) where
+  wide : 0 < U * (2 ^ 21 * t)
+  wide = mul-pos (low .per) (mul-pos (lit< tt) (low .root))
 
   -- |r| is at most twice s / t, though hardly larger
   bounded : (p + n) * t ≤ 2 * (s * U)
   bounded = elim one-sided [
-    | inl e ↦ positive-side p n s t U e (exponents Upos wide tpos (w .least) high)
-    | inr e ↦ negative-side p n s t U e (exponents Upos tpos wide low (w .most))
+    | inl e ↦ negative-side p n s t U e (exponents low (w .most))
+    | inr e ↦ positive-side p n s t U e (exponents (w .least) high)
   ]
 
   -- from below

@@ -1,18 +1,18 @@
 -- Rounding: a logarithm in fixed point, n steps of 2 ^ -54 from log2 1, to the nearest float. The laws are those of fixed's Rounding, at 2 ^ 95 units a step. Assumes nothing.
 use mathlib.Core.Path.{_≡_, ap}
 use mathlib.Core.Logic.{inl, inr}
-use mathlib.Core.Bool.{not}
 use Prim.Native.Nat.{ℕ, _+_, _-_, _*_, _^_, _≤_, _<_}
 use native.Mathlib.Nat.{le-trans, le-of-mul-le-mul-right, mul-le-mul-right}
 use native.Mathlib.Omega.{arith}
-use lib.Dec.{T, ltb, lit≤, lit<}
+use lib.Dec.{ltb, lit≤, lit<}
 use borrow.Author.Tests.{lt-ltb, le-ltb}
-use lib.Ieee.{binary32, nanBits}
+use lib.Ieee.{binary32, ofBits, toBits}
 use Rattle.units.proofs.Naturals.{le-or-lt}
 use Rattle.units.proofs.Bits.{no-nan}
+use Rattle.units.proofs.Patterns.{pattern-back}
 use Rattle.fixed.specs.Rounded.{Normal, nearestBits}
 use Rattle.fixed.proofs.Rounding as fixed
-use Rattle.logs.specs.Log2.{atOne, signOf, distanceOf, roundedBits}
+use Rattle.logs.specs.Value.{atOne, signOf, distanceOf, roundedBits}
 
 -- every number of steps is zero or a normal float's
 pub normal : (n : ℕ) → Normal n 135
@@ -55,12 +55,27 @@ module _ (n : ℕ) (few : n < 2 ^ 63) where
 pub units-order : (n n′ : ℕ) → n′ < 2 ^ 63 → n ≤ n′ → unitsOf n ≤ unitsOf n′
 units-order n n′ few l = fixed.units-order n 135 n′ 135 (omega arith) (normal n) (omega arith) (normal n′) (mul-le-mul-right (2 ^ 135) l)
 
--- with a sign it is no NaN's
-pub real-bits : (w : ℕ) → w < 2 ^ 63 → T (not (nanBits binary32 (roundedBits w)))
-unfolding roundedBits signOf
-real-bits w few = no-nan (ltb w atOne) (nearestBits (distanceOf w) 135) (fixed.bits-fit (distanceOf w) 135 (omega arith) (normal (distanceOf w)))
-
--- the sign's bit
-pub sign-fits : (w : ℕ) → signOf w ≤ 2147483648
+-- ---- the sign's bit
+-- clear from log2 1 on
+pub sign-above : (w : ℕ) → atOne ≤ w → signOf w ≡ 0
 unfolding signOf
-sign-fits w = elim (le-or-lt atOne w) [ inl h ↦ rw (le-ltb w atOne h) (omega arith) | inr h ↦ rw (lt-ltb w atOne h) (omega arith) ]
+sign-above w h = rw (le-ltb w atOne h)
+
+-- set below
+pub sign-below : (w : ℕ) → w < atOne → signOf w ≡ 2147483648
+unfolding signOf
+sign-below w h = rw (lt-ltb w atOne h)
+
+-- ---- the pattern of the float nearest to w
+module _ (w : ℕ) (few : w < 2 ^ 63) where
+  distance-fits : nearestBits (distanceOf w) 135 < 255 * 8388608
+  distance-fits = fixed.bits-fit (distanceOf w) 135 (omega arith) (normal (distanceOf w))
+
+  -- it fits a word
+  pub rounded-fits : signOf w + nearestBits (distanceOf w) 135 < 4294967296
+  rounded-fits = elim (le-or-lt atOne w) [ inl h ↦ omega (arith, sign-above w h, distance-fits) | inr h ↦ omega (arith, sign-below w h, distance-fits) ]
+
+  -- it is that of its float, since it is no NaN's
+  pub rounded-back : toBits binary32 (ofBits binary32 (roundedBits w)) ≡ roundedBits w
+  unfolding roundedBits signOf
+  rounded-back = pattern-back (roundedBits w) rounded-fits (no-nan (ltb w atOne) (nearestBits (distanceOf w) 135) distance-fits)

@@ -82,7 +82,7 @@ module _ (i c b : ℕ) (cs : List ℕ) (few : length cs ≤ 3) (large : 5 * 2 ^ 
       let n = i * 2 ^ 19 + y in
       let (pl, ml) = length-mirror 16 4 all in
       let at-m = value-linear (16 + i) 16 y' D in
-      close-same (rw at-m (omega arith)) (lit< tt) (rw at-m (omega arith))
+      close-same (lit< tt) (rw at-m (omega arith))
       (close (16 ∷ 0 ∷ []) (0 ∷ 0 ∷ []) ((16 + i) ∷ 16 ∷ []) (mul (i ∷ 16 ∷ []) (mirror 16 4 all .0)) (mul (i ∷ 16 ∷ []) (mirror 16 4 all .1)) (2 ^ 51)
       t (lit≤ tt) (lit≤ tt) (lit≤ tt) (length-mul 1 4 (i ∷ 16 ∷ []) (mirror 16 4 all .0) (lit≤ tt) pl) (length-mul 1 4 (i ∷ 16 ∷ []) (mirror 16 4 all .1) (lit≤ tt) ml)
       y' D (value 1 (i ∷ 16 ∷ []) y' D * (exact * 16 ^ 4)) (16 * D) (lit< tt) (omega arith) (low-z y' refl) (rw (value-linear, value-linear) (omega arith)) (lit< tt) (lit< tt)
@@ -103,7 +103,7 @@ module _ (i c b : ℕ) (cs : List ℕ) (few : length cs ≤ 3) (large : 5 * 2 ^ 
       let n = (15 - i) * 2 ^ 19 + v in
       let E = 2 ^ 13 * ((16 + i) * 2 ^ 19 + y) in
       let at-m = value-linear 32 0 v' D in
-      close-same (rw at-m (omega arith)) (omega arith) (rw at-m (omega arith))
+      close-same (omega arith) (rw at-m (omega arith))
       (close ((17 + i) ∷ 0 ∷ []) (0 ∷ 16 ∷ []) (32 ∷ 0 ∷ []) (mul ((15 - i) ∷ 16 ∷ []) all) [] (2 ^ 35)
       t (lit≤ tt) (lit≤ tt) (lit≤ tt) (length-mul 1 4 ((15 - i) ∷ 16 ∷ []) all (lit≤ tt) (omega arith)) (lit≤ tt)
       v' D (value 1 ((15 - i) ∷ 16 ∷ []) v' D * exact) E (lit< tt) (omega arith) high-z (rw (value-linear, value-linear) (omega arith)) (omega arith) (lit< tt)

@@ -1,4 +1,4 @@
--- The polynomials of the logarithm, a row of coefficients for each sixteenth of an octave: what src/rows.rt holds. Definitions only.
+-- The polynomials of the logarithm, a row of coefficients for each sixteenth of an octave: what src/rows.rt holds. A reader of the promises need not read this. Definitions only.
 use Prim.Native.Nat.{ℕ}
 use mathlib.Core.List.{List, [], _∷_}
 use lib.ListN.{getD}

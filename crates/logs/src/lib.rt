@@ -4,8 +4,11 @@ mod rows;
 
 ghost use mathlib.Core.Path.{_≡_};
 ghost use Prim.Native.Nat.{_+_, _*_, _/_, _^_, _<_, _≤_};
-ghost use Rattle.logs.specs.Fixed.{Accepts, FixedLog2, slope};
-ghost use Rattle.logs.specs.Log2.{Log2, distanceOf, roundedBits, signOf};
+ghost use Rattle.units.specs.Answers.{Ends, floatBits};
+ghost use Rattle.units.specs.Tests.{Tells};
+ghost use Rattle.logs.specs.Log2.{Accepts, Log2};
+ghost use Rattle.logs.specs.Value.{slope, distanceOf, roundedBits, signOf};
+ghost use Rattle.logs.specs.Fixed.{FixedLog2};
 
 // log2 1 in fixed point: 127 in steps of 2 ^ -54.
 const AT_ONE: u64 = 0x1fc0_0000_0000_0000;
@@ -61,16 +64,24 @@ fn rounded(w: u64) -> u32
     sign(w) + fixed::nearest_bits(distance(w), 135)
 }
 
-// log2 x, rounded once; code 1 and nothing written where x is a NaN, below 2 ^ -126 or an infinity.
-pub fn log2(x: f32, out: &mut f32) -> u32
-    ensures { λ code. ⌜ Log2 x code (now (out .entry)) (now (out .exit)) ⌝ }
+// Finite and at least 2^-126: patterns from that of 2^-126 on, below the infinity's.
+fn in_range(x: f32) -> bool
+    ensures { λ r. ⌜ Tells (Accepts x) r ⌝ }
 {
-    if f32::from_bits(0x0080_0000) <= x {
-        if x <= f32::from_bits(0x7f7f_ffff) {
-            *out = f32::from_bits(rounded(fixed_log2(x)));
-            return 0;
-        }
-        return 1;
+    let b = fixed::bits_of(x);
+    if b < 0x0080_0000 {
+        return false;
+    }
+    b < 0x7f80_0000
+}
+
+// log2 x, rounded once; code 1 and nothing written where x is a NaN, below 2^-126 or an infinity.
+pub fn log2(x: f32, out: &mut u32) -> u32
+    ensures { λ code. ⌜ Ends floatBits (Log2 x) code (now (out .entry)) (now (out .exit)) ⌝ }
+{
+    if in_range(x) {
+        *out = rounded(fixed_log2(x));
+        return 0;
     }
     1
 }

@@ -8,7 +8,7 @@ use lib.Ieee.{Float}
 use Rattle.units.specs.Units.{P}
 use Rattle.units.proofs.Naturals.{sub-mul}
 use Rattle.exact.proofs.Power.{mul-pow, pow-mul, le-of-pow-le}
-use Rattle.loudness.specs.Map.{Levels, RatioAtMost, RatioAtLeast, Within, errorNum, errorDen}
+use Rattle.loudness.specs.Map.{Levels, RatioAtMost, RatioAtLeast, NearMap, mapErrorNum, mapErrorDen}
 
 -- an order of products of powers, raised and rooted
 raised : (a b c d k j n : ℕ) → a ^ k * b ^ j ≤ c ^ k * d ^ j → a ^ (k * n) * b ^ (j * n) ≤ c ^ (k * n) * d ^ (j * n)
@@ -60,12 +60,12 @@ module _ (a b m k s num den num′ den′ : ℕ) (bm : b ≤ m) (pd : 0 < den) (
       (less a b m (den * k * den′) J′ (J - J′) bm pm (subst (λ (y : ℕ). RatioAtLeast a b m (den * k * den′) y) rest (raised b m a b (den * k) (den * s - num) den′ h))))
 
 -- document 01's bound, 0.55 of a step, follows from the promise
-pub as-asked : (b m : Float) (t c : ℕ) (a : Float) (i : ℕ) → Levels b m → Within errorNum errorDen b m t c a i → Within 11 20 b m t c a i
+pub as-asked : (b m : Float) (t c : ℕ) (a : Float) (i : ℕ) → Levels b m → NearMap mapErrorNum mapErrorDen b m t c a i → NearMap 11 20 b m t c a i
 as-asked b m t c a i h w =
     let o = h .octave in
     let bm : P b ≤ P m = omega arith in
     let pm : 0 < P m = lt-of-lt-of-le (lt-of-lt-of-le (pow-pos 125) (h .quietest)) bm in
     record {
-      not-below = below (P a) (P b) (P m) (c - t) (i - t) errorNum errorDen 11 20 bm (omega arith) (omega arith) (w .not-below);
-      not-above = above (P a) (P b) (P m) (c - t) (i - t) errorNum errorDen 11 20 bm (omega arith) (omega arith) pm (w .not-above);
+      not-below = below (P a) (P b) (P m) (c - t) (i - t) mapErrorNum mapErrorDen 11 20 bm (omega arith) (omega arith) (w .not-below);
+      not-above = above (P a) (P b) (P m) (c - t) (i - t) mapErrorNum mapErrorDen 11 20 bm (omega arith) (omega arith) pm (w .not-above);
     }

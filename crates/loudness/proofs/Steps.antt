@@ -1,99 +1,114 @@
--- The map on whole numbers: a quotient rounded to the nearest whole number, and what bounds on three logarithms then say of the exact map.
--- The number of steps k is any number: the constant num / den says how many the logarithm's error allows. Assumes nothing.
+-- The map on whole numbers: a rise times a slope, rounded to the nearest whole number, and what bounds on three logarithms then say of the exact map.
+-- The number of steps k is any number: the constant num / den says how many the errors of logarithm and slope allow. Assumes nothing.
 use mathlib.Core.Path.{_≡_, ap}
 use mathlib.Core.Logic.{_⊎_, inl, inr}
 use Prim.Native.Nat.{ℕ, _+_, _-_, _*_, _^_, _≤_, _<_}
-use native.Mathlib.Nat.{le-trans, le-of-eq, mul-comm, mul-pos, mul-le-mul-left, mul-le-mul-right, le-of-mul-le-mul-right, le-of-mul-le-mul-right, le-of-lt, le-div-iff-mul-le, div-lt-iff-lt-mul, lt-div-mul-add, div-mul-le-self, pow-zero, pow-le-pow-left}
+use native.Mathlib.Nat.{le-trans, le-of-eq, mul-le-mul-left, mul-le-mul-right, le-of-mul-le-mul-right, lt-of-lt-of-le, not-le-of-lt, pow-zero, pow-le-pow-left}
 use native.Mathlib.Omega.{arith}
 use Rattle.exact.specs.Power.{AtMost, AtLeast}
-use Rattle.exact.proofs.Power.{least-of-more, least-shift}
-use Rattle.exact.proofs.Ratio.{products, exponents}
+use Rattle.exact.proofs.Power.{most-of-less, least-of-more, most-shift, least-shift}
+use Rattle.exact.proofs.Ratio.{products, exponents-over}
 use Rattle.units.proofs.Naturals.{le-or-lt}
-use Rattle.loudness.specs.Map.{RatioAtMost, RatioAtLeast, nearestStep}
+use Rattle.loudness.specs.Map.{RatioAtMost, RatioAtLeast}
 
-module _ (n d k : ℕ) (pd : 0 < d) where
-  step-floor : 2 * d * nearestStep n d k ≤ 2 * n * k + d
-  unfolding nearestStep
-  step-floor = le-trans (le-of-eq (mul-comm (2 * d) (nearestStep n d k))) (div-mul-le-self (2 * n * k + d) (2 * d))
+-- r / U is the slope of k steps over a rise of d: never too large, and over the whole rise at most two parts in Y of a step too small
+pub record Slopes (k d r U Y : ℕ) : Type 0 where
+  pub scale : 0 < U
+  pub parts : 0 < Y
+  pub below : d * r ≤ k * U
+  pub above : k * U * Y ≤ d * r * Y + 2 * U
 
-  step-ceiling : 2 * n * k < 2 * d * nearestStep n d k + d
-  unfolding nearestStep
-  step-ceiling = omega (arith, lt-div-mul-add {a = 2 * n * k + d} {b = 2 * d} (omega arith))
+-- i is the whole number nearest to n r / U
+pub record Rounds (n r U i : ℕ) : Type 0 where
+  pub floor : 2 * U * i ≤ 2 * n * r + U
+  pub ceiling : 2 * n * r ≤ 2 * U * i + U
+
+module _ (n d k r U Y i : ℕ) (sl : Slopes k d r U Y) (ro : Rounds n r U i) where
+  step-floor : 2 * d * i ≤ 2 * n * k + d
+  step-floor = le-of-mul-le-mul-right (omega (arith, mul-le-mul-left d (ro .floor), mul-le-mul-left (2 * n) (sl .below))) (sl .scale)
+
+  step-ceiling : n ≤ d → 2 * n * k * Y ≤ 2 * d * i * Y + d * Y + 4 * d
+  step-ceiling nd =
+      le-of-mul-le-mul-right (omega (arith, mul-le-mul-left (2 * n) (sl .above), mul-le-mul-left (d * Y) (ro .ceiling), mul-le-mul-right (4 * U) nd)) (sl .scale)
 
   -- no more than all steps
-  pub step-most : n ≤ d → nearestStep n d k ≤ k
-  unfolding nearestStep
-  step-most h =
-      let a : n * k ≤ d * k = mul-le-mul-right k h in
-      let b : nearestStep n d k < k + 1 = div-lt-iff-lt-mul {k = 2 * d} (omega arith) .1 (omega arith) in
-      omega arith
-
--- a larger n gives no smaller step
-pub step-mono : (n n′ d k : ℕ) → 0 < d → n ≤ n′ → nearestStep n d k ≤ nearestStep n′ d k
-unfolding nearestStep
-step-mono n n′ d k pd h =
-    let a : n * k ≤ n′ * k = mul-le-mul-right k h in
-    le-div-iff-mul-le {k = 2 * d} (omega arith) .1 (le-trans (div-mul-le-self (2 * n * k + d) (2 * d)) (omega arith))
+  pub step-most : 0 < d → n ≤ d → i ≤ k
+  step-most pd nd = elim (le-or-lt i k) [
+    | inl h ↦ h
+    | inr h ↦
+        let f = step-floor in
+        let a : n * k ≤ d * k = mul-le-mul-right k nd in
+        let b : d * (k + 1) ≤ d * i = mul-le-mul-left d (omega arith) in
+        absurd (omega arith)
+  ]
 
 -- the logarithm of A / unit, shifted by m and in parts of q, lies between L and L + w
 pub record Enclosed (A unit L w m q : ℕ) : Type 0 where
   pub at-most : AtMost A unit (L + w) m q
   pub at-least : AtLeast A unit L m q
 
--- what the constant has to allow: the errors of all logarithms, over all steps, against the span d of the channel
-abbrev pub Allows : ℕ → ℕ → ℕ → ℕ → ℕ → Type 0
-Allows num den w k d = 4 * (w * (den * k)) + 2 * (w * num) + den * d ≤ 2 * (num * d)
+-- what the constant has to allow: the errors of all logarithms and of the slope, over all steps, against the span d of the channel
+abbrev pub Allows : ℕ → ℕ → ℕ → ℕ → ℕ → ℕ → Type 0
+Allows num den w k d Y = 4 * (w * (den * k)) * Y + 2 * (w * num) * Y + den * d * Y + 4 * (den * d) ≤ 2 * (num * d) * Y
 
--- the two orders of exponents that the ratios come to, K = den k, J = den s ± num
-upper : (n d w k s num den : ℕ) → s ≤ k → 2 * n * k < 2 * d * s + d → Allows num den w k d → (n + w) * (den * k) + w * (den * s + num) ≤ d * (den * s + num)
-upper n d w k s num den sk c al =
-    let a : den * (2 * n * k) ≤ den * (2 * d * s + d) = mul-le-mul-left den (le-of-lt c) in
-    let b : w * (den * s) ≤ w * (den * k) = mul-le-mul-left w (mul-le-mul-left den sk) in
-    omega arith
+-- the two orders of exponents that the ratios come to, K = den k, J = den i ± num
+upper : (n d w k i num den Y : ℕ) → 0 < Y → i ≤ k → 2 * n * k * Y ≤ 2 * d * i * Y + d * Y + 4 * d → Allows num den w k d Y → (n + w) * (den * k) + w * (den * i + num) ≤ d * (den * i + num)
+upper n d w k i num den Y py ik c al =
+    let a : den * (2 * n * k * Y) ≤ den * (2 * d * i * Y + d * Y + 4 * d) = mul-le-mul-left den c in
+    let b : w * (den * i) * Y ≤ w * (den * k) * Y = mul-le-mul-right Y (mul-le-mul-left w (mul-le-mul-left den ik)) in
+    le-of-mul-le-mul-right {k = 2 * Y} (omega arith) (omega arith)
 
-lower : (n d w k s num den J : ℕ) → s ≤ k → 2 * d * s ≤ 2 * n * k + d → den * s ≡ J + num → Allows num den w k d → (d + w) * J + w * (den * k) ≤ n * (den * k)
-lower n d w k s num den J sk c e al =
-    let a : den * (2 * d * s) ≤ den * (2 * n * k + d) = mul-le-mul-left den c in
-    let b : w * (den * s) ≤ w * (den * k) = mul-le-mul-left w (mul-le-mul-left den sk) in
-    let f : d * (den * s) ≡ d * (J + num) = ap (λ (z : ℕ). d * z) e in
-    let g : w * (den * s) ≡ w * (J + num) = ap (λ (z : ℕ). w * z) e in
-    omega arith
+lower : (n d w k i num den Y J : ℕ) → 0 < Y → i ≤ k → 2 * d * i ≤ 2 * n * k + d → den * i ≡ J + num → Allows num den w k d Y → (d + w) * J + w * (den * k) ≤ n * (den * k)
+lower n d w k i num den Y J py ik c e al =
+    let a : den * (2 * d * i) * Y ≤ den * (2 * n * k + d) * Y = mul-le-mul-right Y (mul-le-mul-left den c) in
+    let b : w * (den * i) * Y ≤ w * (den * k) * Y = mul-le-mul-right Y (mul-le-mul-left w (mul-le-mul-left den ik)) in
+    let f : d * (den * i) * Y ≡ d * (J + num) * Y = ap (λ (z : ℕ). d * z * Y) e in
+    let g : w * (den * i) * Y ≡ w * (J + num) * Y = ap (λ (z : ℕ). w * z * Y) e in
+    le-of-mul-le-mul-right {k = 2 * Y} (omega arith) (omega arith)
 
 -- the step is within num / den of the exact map
-module _ (A B M unit Lb n d w m q k num den : ℕ) (pq : 0 < q) (pu : 0 < unit) (pd : 0 < d) (nd : n ≤ d) (al : Allows num den w k d)
+module _ (A B M unit Lb n d w m q k r U Y i num den : ℕ) (pd : 0 < d) (nd : n ≤ d) (sl : Slopes k d r U Y) (ro : Rounds n r U i) (al : Allows num den w k d Y)
     (ea : Enclosed A unit (Lb + n) w m q) (eb : Enclosed B unit Lb w m q) (em : Enclosed M unit (Lb + d) w m q) where
-  abbrev s : ℕ
-  s = nearestStep n d k
-
-  pub not-below : RatioAtMost A B M (den * k) (den * s + num)
+  pub not-below : RatioAtMost A B M (den * k) (den * i + num)
   not-below =
-      products (den * k) (den * s + num) pq pu (ea .at-most) (eb .at-most) (eb .at-least) (em .at-least)
-      (sums Lb n d w (den * k) (den * s + num) (upper n d w k s num den (step-most n d k pd nd) (step-ceiling n d k pd) al))
+      products (den * k) (den * i + num) (ea .at-most) (eb .at-most) (eb .at-least) (em .at-least)
+      (sums Lb n d w (den * k) (den * i + num) (upper n d w k i num den Y (sl .parts) (step-most n d k r U Y i sl ro pd nd) (step-ceiling n d k r U Y i sl ro nd) al))
     where
       sums : (L n d w K J : ℕ) → (n + w) * K + w * J ≤ d * J → (L + n + w) * K + (L + w) * J ≤ L * K + (L + d) * J
       sums L n d w K J h = omega arith
 
-  pub not-above : B ≤ A → RatioAtLeast A B M (den * k) (den * s - num)
-  not-above ba = go (le-or-lt num (den * s))
+  pub not-above : B ≤ A → RatioAtLeast A B M (den * k) (den * i - num)
+  not-above ba = go (le-or-lt num (den * i))
     where
       sums : (L n d w K J : ℕ) → (d + w) * J + w * K ≤ n * K → (L + w) * K + (L + d + w) * J ≤ (L + n) * K + L * J
       sums L n d w K J h = omega arith
 
-      go : (num ≤ den * s) ⊎ (den * s < num) → RatioAtLeast A B M (den * k) (den * s - num)
+      go : (num ≤ den * i) ⊎ (den * i < num) → RatioAtLeast A B M (den * k) (den * i - num)
       go (inl h) =
-          products (den * k) (den * s - num) pq pu (eb .at-most) (em .at-most) (ea .at-least) (eb .at-least)
-          (sums Lb n d w (den * k) (den * s - num) (lower n d w k s num den (den * s - num) (step-most n d k pd nd) (step-floor n d k pd) (omega arith) al))
+          products (den * k) (den * i - num) (eb .at-most) (em .at-most) (ea .at-least) (eb .at-least)
+          (sums Lb n d w (den * k) (den * i - num) (lower n d w k i num den Y (den * i - num) (sl .parts) (step-most n d k r U Y i sl ro pd nd) (step-floor n d k r U Y i sl ro) (omega arith) al))
       go (inr h) =
-          let z : den * s - num ≡ 0 = omega arith in
+          let z : den * i - num ≡ 0 = omega arith in
           rw (z, pow-zero M, pow-zero B) (mul-le-mul-right 1 (pow-le-pow-left ba (den * k)))
 
--- a channel of an octave or more spans at least 1, less the errors
-pub span : (B M unit Lb d w m q : ℕ) → 0 < q → 0 < unit → 0 < B → 2 * B ≤ M → Enclosed B unit Lb w m q → Enclosed M unit (Lb + d) w m q → q ≤ d + w
-span B M unit Lb d w m q pq pu pb octave eb em =
-    in-parts (exponents pu pq pq (least-of-more (mul-pos pb (omega arith)) (parts octave) (least-shift 1 0 (eb .at-least))) (em .at-most))
-  where
-    parts : 2 * B ≤ M → B * 2 ^ 1 * unit ≤ M * (unit * 2 ^ 0)
-    parts h = omega (arith, mul-le-mul-right unit h)
+-- ---- how far apart two logarithms are
+module _ (B M unit Lb d w m q : ℕ) (eb : Enclosed B unit Lb w m q) (em : Enclosed M unit (Lb + d) w m q) where
+  -- of an octave or more: at least 1, less the errors
+  pub span-least : 2 * B ≤ M → q ≤ d + w
+  span-least octave = in-parts (exponents-over (least-of-more (em .at-most .per) (doubled octave) (least-shift 1 0 (eb .at-least))) (em .at-most))
+    where
+      doubled : 2 * B ≤ M → B * 2 ^ 1 * unit ≤ M * (unit * 2 ^ 0)
+      doubled h = omega (arith, mul-le-mul-right unit h)
 
-    in-parts : (Lb + 1 * q) * q + m * q ≤ (Lb + d + w) * q + (m + 0 * q) * q → q ≤ d + w
-    in-parts h = let l : Lb + 1 * q ≤ Lb + d + w = le-of-mul-le-mul-right (omega arith) pq in omega arith
+      in-parts : Lb + 1 * q + m ≤ Lb + d + w + (m + 0 * q) → q ≤ d + w
+      in-parts h = omega arith
+
+  -- of 24 octaves at most: that, and the errors
+  pub span-most : M ≤ B * 2 ^ 24 → d ≤ 24 * q + w
+  span-most few = in-parts (exponents-over (em .at-least) (most-of-less (em .at-most .per) (shifted few) (most-shift 24 0 (eb .at-most))))
+    where
+      shifted : M ≤ B * 2 ^ 24 → M * (unit * 2 ^ 0) ≤ B * 2 ^ 24 * unit
+      shifted h = omega (arith, mul-le-mul-right unit h)
+
+      in-parts : Lb + d + (m + 0 * q) ≤ Lb + w + 24 * q + m → d ≤ 24 * q + w
+      in-parts h = omega arith

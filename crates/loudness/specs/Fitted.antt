@@ -1,23 +1,46 @@
--- What one fitting computes. Definitions only.
+-- What one fitting computes. A reader of the promise need not read this. Definitions only.
 use mathlib.Core.Path.{_≡_}
-use mathlib.Core.Bool.{true, false}
-use Prim.Native.Nat.{ℕ, _-_, _^_, _<_}
-use lib.Ieee.{Float}
+use mathlib.Core.Bool.{cond}
+use Prim.Native.Nat.{ℕ, _-_, _*_, _^_, _≤_, _<_}
+use lib.Dec.{eqb}
+use lib.Ieee.{Float, binary32, toBits}
+use Rattle.logs.specs.Fixed.{fixedOf}
 use Rattle.loudness.specs.declared.Fitted.{Fitted}
-use Rattle.loudness.specs.Map.{Channel, levelOf}
+use Rattle.loudness.specs.declared.Slope.{Slope}
+use Rattle.loudness.specs.Map.{Levels}
+use Rattle.loudness.specs.Value.{riseOf, slopeOf, shiftOf}
 
--- f holds a channel, the level of b and how far m's level is above it
+-- a segment of a map: straight from step t at b to step c at m, of as many steps as a stimulator may have
+pub record Segment (b m : Float) (t c : ℕ) : Type 0 where
+  pub levels : Levels b m
+  pub order : t ≤ c
+  pub few : c ≤ 1023
+
+-- r is the slope of k steps over a rise of d
+pub record HasSlope (k d : ℕ) (r : Slope) : Type 0 where
+  pub factor : r .factor ≡ slopeOf k d
+  pub shift : r .shift ≡ shiftOf k d
+
+-- a rise n times the slope f of shift s: no word overflows
+pub record Factors (n f s : ℕ) : Type 0 where
+  pub some : 0 < s
+  pub few : s < 32
+  pub product : n * f ≤ 2 ^ 95
+
+-- f holds a segment, the logarithm of b and the slope
 pub record Holds (f : Fitted) : Type 0 where
-  pub channel : Channel (f .b) (f .m) (f .t) (f .c)
-  pub low : f .low ≡ levelOf (f .b)
-  pub span : f .span ≡ levelOf (f .m) - levelOf (f .b)
-  pub small : f .span < 2 ^ 48
+  pub segment : Segment (f .b) (f .m) (f .t) (f .c)
+  pub low : f .low ≡ fixedOf (f .b)
+  pub slope : HasSlope (f .c - f .t) (riseOf (f .b) (f .m)) (f .slope)
 
--- f is what fitting b, m, t, c gives: those very values, and fit for use where they make a channel
+-- f holds b, m, t and c
 pub record Fits (b m : Float) (t c : ℕ) (f : Fitted) : Type 0 where
   pub same-b : f .b ≡ b
   pub same-m : f .m ≡ m
   pub same-t : f .t ≡ t
   pub same-c : f .c ≡ c
-  pub good : f .ok ≡ true → Holds f
-  pub bad : f .ok ≡ false → ¬ Channel b m t c
+  pub holds : Holds f
+
+-- the pattern of a, with 0 for -0: of envelope values these are in the order of the values
+unfoldable pub sizeBits : Float → ℕ
+sizeBits a = cond (eqb (toBits binary32 a) 2147483648) 0 (toBits binary32 a)

@@ -5,24 +5,24 @@ use mathlib.Core.Bool.{Bool, true, false, cond}
 use Prim.Native.Nat.{ℕ, zero, suc, _≤_, _<_, zero-le}
 use native.Mathlib.Nat.{eq-or-lt-of-le, le-of-eq, le-of-suc-le-suc, not-le-of-lt}
 use native.Mathlib.Omega.{arith}
-use Rattle.roots.specs.Least.{least}
+use Rattle.roots.specs.Value.{leastPassing}
 
 module _ (passes : ℕ → Bool) (h : ℕ) (here : passes h ≡ true) (before : (j : ℕ) → j < h → passes j ≡ false) where
   -- up to h nothing passes, so that the search has come to its end
-  up-to : (k : ℕ) → k ≤ h → least passes k ≡ k
-  unfolding least
+  up-to : (k : ℕ) → k ≤ h → leastPassing passes k ≡ k
+  unfolding leastPassing
   up-to zero l = refl
   up-to (suc k) l =
       let e = up-to k (omega arith) in
       ap (λ (j : ℕ). cond (passes j) j (suc j)) e ∙ ap (λ (b : Bool). cond b k (suc k)) (before k l)
 
   -- from h on it stays there
-  pub least-is : (k : ℕ) → h ≤ k → least passes k ≡ h
-  unfolding least
+  pub least-is : (k : ℕ) → h ≤ k → leastPassing passes k ≡ h
+  unfolding leastPassing
   least-is zero l = up-to 0 (omega arith) ∙ omega arith
   least-is (suc k) l = go (eq-or-lt-of-le l) (least-is k)
     where
-      go : (h ≡ suc k) ⊎ (h < suc k) → (h ≤ k → least passes k ≡ h) → least passes (suc k) ≡ h
+      go : (h ≡ suc k) ⊎ (h < suc k) → (h ≤ k → leastPassing passes k ≡ h) → leastPassing passes (suc k) ≡ h
       go (inl e) rest = up-to (suc k) (le-of-eq (sym e)) ∙ sym e
       go (inr g) rest =
           ap (λ (j : ℕ). cond (passes j) j (suc j)) (rest (omega arith)) ∙ ap (λ (b : Bool). cond b h (suc h)) here

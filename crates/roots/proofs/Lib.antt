@@ -1,4 +1,5 @@
 pub mod Least
 pub mod Steps
+pub mod Range
 pub mod SquareRoot
 pub mod ReciprocalRoot

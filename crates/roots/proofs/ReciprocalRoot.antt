@@ -1,6 +1,6 @@
 -- The reciprocal root: the whole number nearest to the root of a power of two over the significand of x, put together with minus half the exponent, is the float
 -- nearest to 1 / √x. Assumes nothing.
-use mathlib.Core.Path.{_≡_, sym, ap, _∙_, subst}
+use mathlib.Core.Path.{_≡_, refl, sym, ap, _∙_, subst}
 use mathlib.Core.Logic.{inl, inr}
 use mathlib.Core.Bool.{Bool, true, false}
 use Prim.Native.Nat.{ℕ, zero, suc, _+_, _-_, _*_, _/_, _%_, _^_, _≤_, _<_, zero-le}
@@ -11,22 +11,23 @@ use lib.Pow.{pow-add, pow-pos, pow-mono}
 use borrow.Author.Tests.{le-leb, lt-leb, leb-true, leb-false}
 use lib.Ieee.{Float, binary32, ofBits}
 use Rattle.units.specs.Units.{mag, P, Number, Le}
+use Rattle.units.specs.Answers.{Ends, floatBits}
 use Rattle.units.proofs.Naturals.{le-or-lt, proportion-le, proportion-lt}
 use Rattle.units.proofs.Signs.{plus-of, minus-of}
-use Rattle.units.proofs.Answers.{given, declined}
-use Rattle.units.proofs.Bits.{Is, put-positive}
-use Rattle.fixed.specs.Parts.{Positive, Apart, significand, exponent}
+use Rattle.units.proofs.Answers.{given, declined, written, untouched}
+use Rattle.units.proofs.Bits.{Is, put-positive, no-nan-positive}
+use Rattle.units.proofs.Patterns.{pattern-back}
+use Rattle.units.specs.Units.{Positive}
+use Rattle.fixed.specs.Parts.{Apart, significand, exponent}
 use Rattle.fixed.proofs.Take.{unique, own}
 use Rattle.fixed.proofs.Nearest.{Middle, nearest-above, nearest-below, in-order}
-use Rattle.roots.specs.Rsqrt.{NearestRecip, Within, IsNearRecip, nearRecip, rsqrtOf, rsqrtError, Rsqrt}
+use Rattle.roots.specs.Rsqrt.{NearestRecip, NearRecipRoot, rsqrtErrorNum, rsqrtErrorDen, Rsqrt}
+use Rattle.roots.specs.Value.{IsNearRecip, nearRecip, parity, turned, rsqrtBits, rsqrtOf}
 use Rattle.roots.proofs.Least.{least-is, first-passing}
 
 -- ---- Reduction: the power of two that the significand divides, and the exponent g of the result
 abbrev pub evened : ℕ → ℕ
-evened e = 2 ^ (70 + (401 - e) % 2)
-
-abbrev pub turned : ℕ → ℕ
-turned e = (401 - e) / 2
+evened e = 2 ^ (70 + parity e)
 
 -- x times the square of the result's step, and 1, in one proportion: as the significand to the power of two
 scaled : (x : Float) (m e : ℕ) → Apart x m e → mag x * (2 ^ turned e * 2 ^ turned e) * 2 ^ 24 ≡ m * 2 ^ (e + (turned e + turned e))
@@ -40,29 +41,29 @@ scaled x m e a =
 
 one-scaled : (e : ℕ) → e ≤ 277 → 2 ^ 447 * 2 ^ 24 ≡ evened e * 2 ^ (e + (turned e + turned e))
 one-scaled e h =
-    let k : 70 + (401 - e) % 2 + (e + ((401 - e) / 2 + (401 - e) / 2)) ≡ 447 + 24 = omega arith in
-    sym (pow-add 2 447 24) ∙ ap (λ (n : ℕ). 2 ^ n) (sym k) ∙ pow-add 2 (70 + (401 - e) % 2) (e + (turned e + turned e))
+    let k : 70 + parity e + (e + (turned e + turned e)) ≡ 447 + 24 = omega arith in
+    sym (pow-add 2 447 24) ∙ ap (λ (n : ℕ). 2 ^ n) (sym k) ∙ pow-add 2 (70 + parity e) (e + (turned e + turned e))
 
 -- the power of two as the program has it, in steps of 2 ^ 30 and in a word of 64 digits
 abbrev inWord : ℕ → ℕ
-inWord e = 1 * 2 ^ (40 + (401 - e) % 2) % 18446744073709551616
+inWord e = 1 * 2 ^ (40 + parity e) % 18446744073709551616
 
-word-is : (e : ℕ) → inWord e ≡ 2 ^ (40 + (401 - e) % 2)
+word-is : (e : ℕ) → inWord e ≡ 2 ^ (40 + parity e)
 word-is e =
-    let p = 2 ^ (40 + (401 - e) % 2) in
-    let h : p ≤ 2 ^ 41 = pow-mono {i = 40 + (401 - e) % 2} {j = 41} (omega arith) in
+    let p = 2 ^ (40 + parity e) in
+    let h : p ≤ 2 ^ 41 = pow-mono {i = 40 + parity e} {j = 41} (omega arith) in
     mod-eq-of-lt (omega arith) ∙ omega arith
 
 pub word-least : (e : ℕ) → 1 ≤ inWord e
-word-least e = le-trans (pow-pos (40 + (401 - e) % 2)) (le-of-eq (sym (word-is e)))
+word-least e = le-trans (pow-pos (40 + parity e)) (le-of-eq (sym (word-is e)))
 
 pub word-most : (e : ℕ) → inWord e ≤ 2 ^ 41
-word-most e = le-trans (le-of-eq (word-is e)) (pow-mono {i = 40 + (401 - e) % 2} {j = 41} (omega arith))
+word-most e = le-trans (le-of-eq (word-is e)) (pow-mono {i = 40 + parity e} {j = 41} (omega arith))
 
 pub word-evened : (e : ℕ) → inWord e * 2 ^ 30 ≡ evened e
 word-evened e =
-    let k : 40 + (401 - e) % 2 + 30 ≡ 70 + (401 - e) % 2 = omega arith in
-    ap (λ (n : ℕ). n * 2 ^ 30) (word-is e) ∙ sym (pow-add 2 (40 + (401 - e) % 2) 30) ∙ ap (λ (n : ℕ). 2 ^ n) k
+    let k : 40 + parity e + 30 ≡ 70 + parity e = omega arith in
+    ap (λ (n : ℕ). n * 2 ^ 30) (word-is e) ∙ sym (pow-add 2 (40 + parity e) 30) ∙ ap (λ (n : ℕ). 2 ^ n) k
 
 -- ---- Method: sides of a test on m and t, and of the same test on x, are in one proportion. X u² c = m w and B c = t w
 module _ (X m t w c u B : ℕ) (xs : X * (u * u) * c ≡ m * w) (bs : B * c ≡ t * w) where
@@ -143,10 +144,10 @@ first-digits m t h ml tl e =
     le-trans (le-of-eq (ap (λ (n : ℕ). n * n * m) e)) (le-trans a tl)
 
 even-least : (e : ℕ) → 2 ^ 70 ≤ evened e
-even-least e = pow-mono {i = 70} {j = 70 + (401 - e) % 2} (omega arith)
+even-least e = pow-mono {i = 70} {j = 70 + parity e} (omega arith)
 
 even-most : (e : ℕ) → evened e ≤ 2 ^ 71
-even-most e = pow-mono {i = 70 + (401 - e) % 2} {j = 71} (omega arith)
+even-most e = pow-mono {i = 70 + parity e} {j = 71} (omega arith)
 
 module _ (x : Float) (m e h : ℕ) (p : 0 < mag x) (a : Apart x m e) (near : IsNearRecip (evened e) m h) where
   abbrev g : ℕ
@@ -162,10 +163,10 @@ module _ (x : Float) (m e h : ℕ) (p : 0 < mag x) (a : Apart x m e) (near : IsN
   w = 2 ^ (e + (g + g))
 
   least : 2 ^ 23 ≤ h
-  least = digits-least m t h (a .digits) (even-least e) (near .over)
+  least = digits-least m t h (a .digits) (even-least e) (near .half-above)
 
   most : h ≤ 2 ^ 24
-  most = digits-most m t h (a .least) (even-most e) (near .under)
+  most = digits-most m t h (a .least) (even-most e) (near .half-below)
 
   -- the sides of the tests on x
   squares : (i k : ℕ) → i * (mag x * (k * u * (k * u))) * 2 ^ 24 ≡ i * (k * k * m) * w
@@ -186,10 +187,10 @@ module _ (x : Float) (m e h : ℕ) (p : 0 < mag x) (a : Apart x m e) (near : IsN
   above : Over ((2 * h + 1) * u)
   above =
       let l = least in
-      proportion-lt (2 ^ 24) w (ones 4) (square (2 * h + 1)) (pow-pos (e + (g + g))) (strict (70 + (401 - e) % 2) m h (omega arith) (near .over))
+      proportion-lt (2 ^ 24) w (ones 4) (square (2 * h + 1)) (pow-pos (e + (g + g))) (strict (70 + parity e) m h (omega arith) (near .half-above))
 
   below : Under ((2 * h - 1) * u)
-  below = proportion-lt (2 ^ 24) w (square (2 * h - 1)) (ones 4) (pow-pos (e + (g + g))) (near .under)
+  below = proportion-lt (2 ^ 24) w (square (2 * h - 1)) (ones 4) (pow-pos (e + (g + g))) (near .half-below)
 
   -- twice h steps, where h steps are at most the number
   twice : h * h * m ≤ t → mag x * (2 * h * u * (2 * h * u)) ≤ 4 * 2 ^ 447
@@ -226,39 +227,36 @@ module _ (x : Float) (m e h : ℕ) (p : 0 < mag x) (a : Apart x m e) (near : IsN
   result-plus : P result ≡ h * u
   result-plus = plus-of result (result-is .sign) ∙ result-is .units
 
-  -- b b h² m ≤ (b + 1)² t, for b = 2 ^ 24
-  high : 2 ^ 24 * 2 ^ 24 * (h * h * m) ≤ (2 ^ 24 + 1) * (2 ^ 24 + 1) * t
+  abbrev b : ℕ
+  b = rsqrtErrorDen
+
+  -- b² h² m ≤ (b + 1)² t
+  high : b * b * (h * h * m) ≤ (b + 1) * (b + 1) * t
   high = elim (eq-or-lt-of-le least) [
-    | inl c ↦ mul-le-mul {n₁ = 2 ^ 24 * 2 ^ 24} {n₂ = (2 ^ 24 + 1) * (2 ^ 24 + 1)} (omega arith) (first-digits m t h (a .digits) (even-least e) (sym c))
-    | inr c ↦ high-by m t h (2 ^ 24) (2 * h - 1) (omega arith) (omega arith) (le-of-lt (near .under))
+    | inl c ↦ mul-le-mul {n₁ = b * b} {n₂ = (b + 1) * (b + 1)} (omega arith) (first-digits m t h (a .digits) (even-least e) (sym c))
+    | inr c ↦ high-by m t h b (2 * h - 1) (omega arith) (omega arith) (le-of-lt (near .half-below))
   ]
 
-  result-within : Within 1 (2 ^ 24) x result
-  result-within =
+  result-near : NearRecipRoot rsqrtErrorNum b x result
+  result-near =
       let l = least in
-      let e1 = result-plus in
-      let b = 2 ^ 24 in
       record {
-        above-zero = subst (λ (n : ℕ). 0 < n) (sym e1) (mul-pos (lt-of-lt-of-le (pow-pos 23) l) (pow-pos g));
-        at-least =
-            subst (λ (n : ℕ). (b - 1) * (b - 1) * 2 ^ 447 ≤ b * b * (mag x * (n * n))) (sym e1)
-            (proportion-le (2 ^ 24) w (ones ((b - 1) * (b - 1))) (squares (b * b) h) (pow-pos 24) (low-by m t h (b - 1) (omega arith) (near .over)));
-        at-most =
-            subst (λ (n : ℕ). b * b * (mag x * (n * n)) ≤ (b + 1) * (b + 1) * 2 ^ 447) (sym e1)
-            (proportion-le (2 ^ 24) w (squares (b * b) h) (ones ((b + 1) * (b + 1))) (pow-pos 24) high);
+        above-zero = rw result-plus (mul-pos (lt-of-lt-of-le (pow-pos 23) l) (pow-pos g));
+        at-least = rw result-plus (proportion-le (2 ^ 24) w (ones ((b - 1) * (b - 1))) (squares (b * b) h) (pow-pos 24) (low-by m t h (b - 1) (omega arith) (near .half-above)));
+        at-most = rw result-plus (proportion-le (2 ^ 24) w (squares (b * b) h) (ones ((b + 1) * (b + 1))) (pow-pos 24) high);
       }
 
 -- ---- the value function: of every significand there is a nearest reciprocal root, and one only
 near-recip : (t m h : ℕ) → h ≤ 2 ^ 24 → IsNearRecip t m h → nearRecip t m ≡ h
 unfolding nearRecip
 near-recip t m h top n =
-    least-is (λ (q : ℕ). leb (4 * t) ((2 * q + 1) * (2 * q + 1) * m)) h (le-leb (4 * t) ((2 * h + 1) * (2 * h + 1) * m) (n .over))
+    least-is (λ (q : ℕ). leb (4 * t) ((2 * q + 1) * (2 * q + 1) * m)) h (le-leb (4 * t) ((2 * h + 1) * (2 * h + 1) * m) (n .half-above))
     (λ j l. lt-leb (4 * t) ((2 * j + 1) * (2 * j + 1) * m) (before j l)) (2 ^ 25) (omega arith)
   where
     before : (j : ℕ) → j < h → (2 * j + 1) * (2 * j + 1) * m < 4 * t
     before j l =
         let k : 2 * j + 1 ≤ 2 * h - 1 = omega arith in
-        lt-of-le-of-lt (mul-le-mul-right m (mul-le-mul k k)) (n .under)
+        lt-of-le-of-lt (mul-le-mul-right m (mul-le-mul k k)) (n .half-below)
 
 near-exists : (t m : ℕ) → m < 4 * t → t ≤ 2 ^ 71 → 2 ^ 23 ≤ m → (h : ℕ) × IsNearRecip t m h
 near-exists t m low top l = go (first-passing test (2 ^ 24) (le-leb (4 * t) ((2 * 2 ^ 24 + 1) * (2 * 2 ^ 24 + 1) * m) enough))
@@ -275,69 +273,84 @@ near-exists t m low top l = go (first-passing test (2 ^ 24) (le-leb (4 * t) ((2 
         let e : 2 * suc h - 1 ≡ 2 * h + 1 = omega arith in (
           suc h,
           record {
-            over = leb-true (4 * t) ((2 * suc h + 1) * (2 * suc h + 1) * m) y;
-            under = subst (λ (o : ℕ). o * o * m < 4 * t) (sym e) (leb-false (4 * t) ((2 * h + 1) * (2 * h + 1) * m) (before h (omega arith)));
+            half-above = leb-true (4 * t) ((2 * suc h + 1) * (2 * suc h + 1) * m) y;
+            half-below = subst (λ (o : ℕ). o * o * m < 4 * t) (sym e) (leb-false (4 * t) ((2 * h + 1) * (2 * h + 1) * m) (before h (omega arith)));
           },
         )
 
--- the value function is the program's pattern, however its digits were found
-pub rsqrt-of : (x : Float) (m e h : ℕ) → Positive x → Apart x m e → IsNearRecip (evened e) m h → rsqrtOf x ≡ ofBits binary32 (turned e * 8388608 + h)
-unfolding rsqrtOf
-rsqrt-of x m e h p a n =
+-- the value's pattern is the program's, however its digits were found
+pub rsqrt-bits : (x : Float) (m e h : ℕ) → 0 < mag x → Apart x m e → IsNearRecip (evened e) m h → rsqrtBits x ≡ turned e * 8388608 + h
+unfolding rsqrtBits
+rsqrt-bits x m e h p a n =
     let (i, j) = unique x m e a in
-    rw (← i, ← j, near-recip (evened e) m h (most x m e h (p .above) a n) n)
+    rw (← i, ← j, near-recip (evened e) m h (most x m e h p a n) n)
 
-accepted : (x : Float) → Positive x → NearestRecip x (rsqrtOf x) × Within 1 (2 ^ 24) x (rsqrtOf x) × Number (rsqrtOf x)
-accepted x p = go (near-exists t m (lt-of-lt-of-le (a .digits) (le-trans (omega arith) (mul-le-mul-left 4 (even-least e)))) (even-most e) (a .least))
-  where
-    m : ℕ
-    m = significand x
+-- the pattern is a finite float's, and that float is the nearest
+module _ (x : Float) (p : Positive x) where
+  accepted : (rsqrtBits x < 255 * 8388608) × NearestRecip x (rsqrtOf x) × NearRecipRoot rsqrtErrorNum rsqrtErrorDen x (rsqrtOf x) × Number (rsqrtOf x)
+  unfolding rsqrtOf
+  accepted = go (near-exists t m (lt-of-lt-of-le (a .digits) (le-trans (omega arith) (mul-le-mul-left 4 (even-least e)))) (even-most e) (a .least))
+    where
+      m : ℕ
+      m = significand x
 
-    e : ℕ
-    e = exponent x
+      e : ℕ
+      e = exponent x
 
-    t : ℕ
-    t = evened e
+      t : ℕ
+      t = evened e
 
-    a : Apart x m e
-    a = own x p
+      a : Apart x m e
+      a = own x p
 
-    go : (h : ℕ) × IsNearRecip t m h → NearestRecip x (rsqrtOf x) × Within 1 (2 ^ 24) x (rsqrtOf x) × Number (rsqrtOf x)
-    go (h, n) =
-        subst (λ (r : Float). NearestRecip x r × Within 1 (2 ^ 24) x r × Number r) (sym (rsqrt-of x m e h p a n))
-        (result-nearest x m e h (p .above) a n, result-within x m e h (p .above) a n, result-is x m e h (p .above) a n .number)
+      go : (h : ℕ) × IsNearRecip t m h → (rsqrtBits x < 255 * 8388608) × NearestRecip x (ofBits binary32 (rsqrtBits x)) × NearRecipRoot rsqrtErrorNum rsqrtErrorDen x (ofBits binary32 (rsqrtBits x)) × Number (ofBits binary32 (rsqrtBits x))
+      go (h, n) = rw (rsqrt-bits x m e h (p .above) a n) (pattern-in x m e h (p .above) a n, result-nearest x m e h (p .above) a n, result-near x m e h (p .above) a n, result-is x m e h (p .above) a n .number)
 
 -- ---- Order: the middle of two results lies on one side only
 rsqrt-order : (x : Float) → Positive x → (x′ : Float) → Positive x′ → Le x′ x → Le (rsqrtOf x) (rsqrtOf x′)
 rsqrt-order x p x′ p′ l =
-    let r = accepted x p in
-    let r′ = accepted x′ p′ in
+    let (b, n, c, h) = accepted x p in
+    let (b′, n′, c′, h′) = accepted x′ p′ in
     let units : mag x′ ≤ mag x = omega (arith, plus-of x (p .sign), minus-of x (p .sign), plus-of x′ (p′ .sign), minus-of x′ (p′ .sign)) in
     in-order (λ s. 4 * 2 ^ 447 < mag x′ * (s * s)) (λ s. mag x * (s * s) < 4 * 2 ^ 447)
     (λ s b c. not-le-of-lt (lt-trans c b) (mul-le-mul-right (s * s) units))
-    (rsqrtOf x′) (rsqrtOf x) (r′ .0 .from-above (rsqrtOf x) (r .2)) (r .0 .from-below (rsqrtOf x′) (r′ .2))
+    (rsqrtOf x′) (rsqrtOf x) (n′ .from-above (rsqrtOf x) h) (n .from-below (rsqrtOf x′) h′)
 
 -- ---- the whole promise, of an accepted x and of any other
-pub promised : (x before after : Float) → Positive x → after ≡ rsqrtOf x → Rsqrt x 0 before after
-promised x before after p e =
-    let r = accepted x p in
+
+-- code 0 and the value
+promised : (x : Float) → Positive x → Rsqrt x 0 (rsqrtOf x)
+promised x p =
+    let (b, n, c, h) = accepted x p in
     record {
-      answers = given rsqrtOf x before after p e (subst Number (sym e) (r .2));
-      nearest = λ h. subst (λ (z : Float). NearestRecip x z) (sym e) (r .0);
-      near = λ h. subst (λ (z : Float). Within 1 (2 ^ 24) x z) (sym e) (r .1);
-      order = λ h x′ p′ l. subst (λ (z : Float). Le z (rsqrtOf x′)) (sym e) (rsqrt-order x p x′ p′ l);
+      answers = given rsqrtOf x (rsqrtOf x) p refl h;
+      nearest = λ q. n;
+      near = λ q. c;
+      order = λ q. rsqrt-order x p;
     }
 
-pub refused : (x before : Float) → ¬ Positive x → Rsqrt x 1 before before
-refused x before n = record {
-  answers = declined rsqrtOf x before n;
+-- code 1
+refused : (x : Float) → ¬ Positive x → Rsqrt x 1 (rsqrtOf x)
+refused x n = record {
+  answers = declined rsqrtOf x (rsqrtOf x) n;
   nearest = λ h. absurd (n h);
   near = λ h. absurd (n h);
   order = λ h. absurd (n h);
 }
 
+-- ---- how the call ends
+
+-- the pattern that is written is the value's
+pub success : (x : Float) {before after : ℕ} → Positive x → after ≡ rsqrtBits x → Ends floatBits (Rsqrt x) 0 before after
+unfolding rsqrtOf
+success x p e = written (rsqrtOf x) (promised x p) (e ∙ sym (pattern-back _ (omega (arith, accepted x p .0)) (no-nan-positive _ (accepted x p .0))))
+
+-- nothing is written
+pub refusal : (x : Float) {before : ℕ} → ¬ Positive x → Ends floatBits (Rsqrt x) 1 before before
+refusal x n = untouched 1 (rsqrtOf x) (λ z. omega arith) (refused x n)
+
 -- document 01's bound, relative 2 ^ -22, follows from the promise
-pub as-asked : (x r : Float) → Within 1 rsqrtError x r → Within 1 (2 ^ 22) x r
+pub as-asked : (x r : Float) → NearRecipRoot rsqrtErrorNum rsqrtErrorDen x r → NearRecipRoot 1 (2 ^ 22) x r
 as-asked x r w = record {
   above-zero = w .above-zero;
   at-least = least (2 ^ 447) (mag x * (P r * P r)) (w .at-least);

@@ -5,7 +5,7 @@ use Prim.Native.Nat.{ℕ, _+_, _-_, _*_, _/_, _%_, _≤_, _<_}
 use native.Mathlib.Nat.{not-le-of-lt, mul-le-mul, mul-le-mul-right, div-add-mod', mul-add-div-right}
 use native.Mathlib.Omega.{arith}
 use Rattle.units.proofs.Naturals.{le-or-lt}
-use Rattle.roots.specs.Rsqrt.{IsNearRecip}
+use Rattle.roots.specs.Value.{IsNearRecip}
 
 -- a guess below 2 ^ 26 has a square below 2 ^ 52
 pub square : (s : ℕ) → s < 67108864 → s * s < 4503599627370496
@@ -15,21 +15,22 @@ square s h =
     omega arith
 
 -- a root of fewer than 48 digits has at most 24: a step up stays there
-pub up-small : (n s : ℕ) → n < 281474976710656 → s * s + s < n → s + 1 < 67108864
+pub up-small : (n s : ℕ) → n < 281474976710656 → s * s < n → s + 1 < 67108864
 up-small n s h l = elim (le-or-lt s 16777216) [
   | inl k ↦ omega arith
   | inr k ↦ let a : 16777217 * 16777217 ≤ s * s = mul-le-mul k k in absurd (not-le-of-lt l (omega arith))
 ]
 
--- where a step down is taken there is room for it, and n is not passed
-pub down-room : (n s : ℕ) → 0 < n → n + s ≤ s * s → 1 ≤ s
-down-room n s h l = elim (le-or-lt 1 s) [ inl k ↦ k | inr k ↦ let a : s * s ≤ 0 * 0 = mul-le-mul {n₁ = s} {m₁ = s} {n₂ = 0} {m₂ = 0} (omega arith) (omega arith) in absurd (not-le-of-lt h (omega arith)) ]
+-- where a square is above zero there is room for a step down
+pub down-room : (s : ℕ) → 0 < s * s → 1 ≤ s
+down-room s h = elim (le-or-lt 1 s) [ inl k ↦ k | inr k ↦ let a : s * s ≤ 0 * 0 = mul-le-mul {n₁ = s} {m₁ = s} {n₂ = 0} {m₂ = 0} (omega arith) (omega arith) in absurd (not-le-of-lt h (omega arith)) ]
 
+-- where it is taken, n is not passed
 pub down-over : (n s : ℕ) → 1 ≤ s → n + s ≤ s * s → n ≤ (s - 1) * (s - 1) + (s - 1)
 down-over n s h l =
     let t = s - 1 in
     let e : s ≡ t + 1 = omega arith in
-    let k : n + (t + 1) ≤ (t + 1) * (t + 1) = subst (λ (q : ℕ). n + q ≤ q * q) e l in
+    let k : s * s ≡ (t + 1) * (t + 1) = ap (λ (q : ℕ). q * q) e in
     omega arith
 
 -- ---- the reciprocal root
@@ -71,4 +72,4 @@ recip-room m t h ml tl l = elim (le-or-lt 1 h) [
 pub recip-near : (m t h : ℕ) → 1 ≤ h → t ≤ (2 * h + 1) * (2 * h + 1) * m / 4294967296 → (2 * (h - 1) + 1) * (2 * (h - 1) + 1) * m / 4294967296 < t → IsNearRecip (t * 1073741824) m h
 recip-near m t h p over under =
     let e : 2 * h - 1 ≡ 2 * (h - 1) + 1 = omega arith in
-    record { over = omega arith; under = subst (λ (o : ℕ). o * o * m < 4 * (t * 1073741824)) (sym e) (omega arith) }
+    record { half-above = omega arith; half-below = subst (λ (o : ℕ). o * o * m < 4 * (t * 1073741824)) (sym e) (omega arith) }

@@ -1,3 +1,3 @@
-pub mod Least
+pub mod Value
 pub mod Sqrt
 pub mod Rsqrt

@@ -1,14 +1,11 @@
 -- The promise of the square root. Definitions only.
 use mathlib.Core.Path.{_≡_}
 use mathlib.Core.Logic.{_⊎_}
-use Prim.Native.Nat.{ℕ, _+_, _-_, _*_, _/_, _%_, _^_, _≤_, _<_}
-use mathlib.Core.Bool.{cond}
-use lib.Dec.{leb, eqb}
-use lib.Ieee.{Float, binary32, ofBits}
+use Prim.Native.Nat.{ℕ, _+_, _-_, _*_, _^_, _<_}
+use lib.Ieee.{Float}
 use Rattle.units.specs.Units.{mag, P, N, Number, Le, Lt}
 use Rattle.units.specs.Answers.{Answers}
-use Rattle.fixed.specs.Parts.{significand, exponent}
-use Rattle.roots.specs.Least.{least}
+use Rattle.roots.specs.Value.{sqrtOf}
 
 -- accepted: the finite floats that are at least zero; -0 and the subnormals are among them
 pub record Accepts (x : Float) : Type 0 where
@@ -28,28 +25,13 @@ pub record NearestRoot (x r : Float) : Type 0 where
   pub from-above : (z : Float) → Number z → Lt r z → TwiceRootBelow (mag x) (P r + P z) (N r + N z)
   pub from-below : (z : Float) → Number z → Lt z r → TwiceRootAbove (mag x) (P r + P z) (N r + N z)
 
--- S is the whole number nearest to √n: S - 1/2 < √n < S + 1/2
-pub record IsNear (n S : ℕ) : Type 0 where
-  pub over : n ≤ S * S + S
-  pub under : S * S < n + S
-
--- that number: the least q with √n ≤ q + 1/2
-unfoldable pub nearRoot : ℕ → ℕ
-nearRoot n = least (λ q. leb n (q * q + q)) n
-
--- what the program computes: of zero the same zero; else the 24 digits of the root, put together with half the exponent
-unfoldable pub sqrtOf : Float → Float
-sqrtOf x =
-    cond (eqb (mag x) 0) x
-    (ofBits binary32 ((exponent x / 2 + 51) * 8388608 + nearRoot (significand x * 2 ^ (23 + exponent x % 2))))
-
--- the whole promise
-pub record Sqrt (x : Float) (code : ℕ) (before after : Float) : Type 0 where
-  -- codes, the untouched result place, the value
-  pub answers : Answers Accepts sqrtOf x code before after
+-- the whole promise of x, answered by a code and the result r
+pub record Sqrt (x : Float) (code : ℕ) (r : Float) : Type 0 where
+  -- codes, the value
+  pub answers : Answers Accepts sqrtOf x code r
   -- the nearest float
-  pub nearest : Accepts x → NearestRoot x after
+  pub nearest : Accepts x → NearestRoot x r
   -- of -0 it is -0, of +0 it is +0
-  pub zero : Accepts x → mag x ≡ 0 → after ≡ x
+  pub zero : Accepts x → mag x ≡ 0 → r ≡ x
   -- a larger input never gives a smaller output
-  pub order : Accepts x → (x′ : Float) → Accepts x′ → Le x′ x → Le (sqrtOf x′) after
+  pub order : Accepts x → (x′ : Float) → Accepts x′ → Le x′ x → Le (sqrtOf x′) r

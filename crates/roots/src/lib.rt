@@ -4,9 +4,11 @@ mod guess;
 
 ghost use mathlib.Core.Path.{_≡_};
 ghost use Prim.Native.Nat.{_+_, _*_, _/_, _<_, _≤_, _^_};
-ghost use Rattle.fixed.specs.Parts.{Positive};
-ghost use Rattle.roots.specs.Sqrt.{IsNear, Sqrt, sqrtOf};
-ghost use Rattle.roots.specs.Rsqrt.{IsNearRecip, Rsqrt, rsqrtOf};
+ghost use Rattle.units.specs.Answers.{Ends, floatBits};
+ghost use Rattle.units.specs.Units.{Positive};
+ghost use Rattle.roots.specs.Value.{IsNear, sqrtBits, IsNearRecip, rsqrtBits};
+ghost use Rattle.roots.specs.Sqrt.{Sqrt};
+ghost use Rattle.roots.specs.Rsqrt.{Rsqrt};
 
 // The whole number nearest to the root of n, whatever the guess: the tests of the two loops are the statement.
 fn settle_root(n: u64, guess: u64) -> u64
@@ -23,33 +25,31 @@ fn settle_root(n: u64, guess: u64) -> u64
     s
 }
 
-// The root of a float above zero: n has 47 or 48 digits, its root 24.
-fn root_above_zero(x: f32) -> f32
+// The root of a float above zero, as a bit pattern: n has 47 or 48 digits, its root 24.
+fn root_bits(x: f32) -> u32
     requires { ⌜ Positive x ⌝ }
-    ensures { λ r. ⌜ r ≡ sqrtOf x ⌝ }
+    ensures { λ r. ⌜ r ≡ sqrtBits x ⌝ }
 {
     let p = fixed::apart(x);
     let m = p.m;
     let e = p.e;
     let n = (m as u64) << (23 + e % 2);
     let s = settle_root(n, guess::root(m, e));
-    f32::from_bits((e / 2 + 51) * 8388608 + s as u32)
+    (e / 2 + 51) * 8388608 + s as u32
 }
 
-// The nearest float to the root of x; code 1 and nothing written where x is a NaN, below zero or an infinity.
-pub fn sqrt(x: f32, out: &mut f32) -> u32
-    ensures { λ code. ⌜ Sqrt x code (now (out .entry)) (now (out .exit)) ⌝ }
+// The nearest float to the root of x, of a zero the same zero; code 1 and nothing written where x is a NaN, below zero or an infinity.
+pub fn sqrt(x: f32, out: &mut u32) -> u32
+    ensures { λ code. ⌜ Ends floatBits (Sqrt x) code (now (out .entry)) (now (out .exit)) ⌝ }
 {
-    if 0.0 <= x {
-        if x <= f32::from_bits(0x7f7f_ffff) {
-            if x == 0.0 {
-                *out = x;
-                return 0;
-            }
-            *out = root_above_zero(x);
-            return 0;
-        }
-        return 1;
+    let b = fixed::bits_of(x);
+    if b % 0x8000_0000 == 0 {
+        *out = b;
+        return 0;
+    }
+    if b < 0x7f80_0000 {
+        *out = root_bits(x);
+        return 0;
     }
     1
 }
@@ -79,10 +79,10 @@ fn settle_reciprocal(m: u64, t: u64, guess: u64) -> u64
     h
 }
 
-// The reciprocal root of a float above zero: the power of two over the significand has 47 or 48 digits before the point, its root 24.
-fn reciprocal_above_zero(x: f32) -> f32
+// The reciprocal root of a float above zero, as a bit pattern: the power of two over the significand has 47 or 48 digits before the point, its root 24.
+fn reciprocal_bits(x: f32) -> u32
     requires { ⌜ Positive x ⌝ }
-    ensures { λ r. ⌜ r ≡ rsqrtOf x ⌝ }
+    ensures { λ r. ⌜ r ≡ rsqrtBits x ⌝ }
 {
     let p = fixed::apart(x);
     let m = p.m;
@@ -90,19 +90,17 @@ fn reciprocal_above_zero(x: f32) -> f32
     let k = 401 - e;
     let t = 1 << (40 + k % 2);
     let h = settle_reciprocal(m as u64, t, guess::reciprocal(m, e));
-    f32::from_bits(k / 2 * 8388608 + h as u32)
+    k / 2 * 8388608 + h as u32
 }
 
 // The nearest float to 1 over the root of x; code 1 and nothing written where x is a NaN, at most zero or an infinity.
-pub fn rsqrt(x: f32, out: &mut f32) -> u32
-    ensures { λ code. ⌜ Rsqrt x code (now (out .entry)) (now (out .exit)) ⌝ }
+pub fn rsqrt(x: f32, out: &mut u32) -> u32
+    ensures { λ code. ⌜ Ends floatBits (Rsqrt x) code (now (out .entry)) (now (out .exit)) ⌝ }
 {
-    if 0.0 < x {
-        if x <= f32::from_bits(0x7f7f_ffff) {
-            *out = reciprocal_above_zero(x);
-            return 0;
-        }
-        return 1;
+    let b = fixed::bits_of(x);
+    if 0 < b && b < 0x7f80_0000 {
+        *out = reciprocal_bits(x);
+        return 0;
     }
     1
 }

@@ -13,8 +13,9 @@ use lib.Ieee.Fits.{and-i, and-l, and-r}
 use lib.Ieee.Scale.{finite}
 use Rattle.units.proofs.Sums.{add-operands}
 use Rattle.units.proofs.Products.{mul-operands}
-use Rattle.sums.specs.Sum.{Sum, nothing, product, plus, total, Factors, over, one}
+use Rattle.sums.specs.Sum.{Sum, nothing, product, plus, total}
 use Rattle.sums.specs.Dot.{Elements, allFinite, inTurn, dotSum, sumOver}
+use Rattle.sums.proofs.Count.{Factors, added, one}
 
 -- what the loop computes from s on
 unfoldable pub run : Float → List Float → List Float → Float
@@ -40,16 +41,16 @@ unfolding run
 run-end s a b i l = rw (drop-of-length-le a l)
 
 -- ---- exact sums over the order are exact sums over the lists
-over-in-turn : (f : Float → Float → ℕ) (s : Sum) (xs ys : List Float) → over f (inTurn s xs ys) ≡ over f s + sumOver f xs ys
-unfolding inTurn over sumOver
-over-in-turn f s [] ys = omega arith
-over-in-turn f s (x ∷ xs) [] = omega arith
-over-in-turn f s (x ∷ xs) (y ∷ ys) = let h = over-in-turn f (plus s (product x y)) xs ys in omega arith
+added-in-turn : (f : Float → Float → ℕ) (s : Sum) (xs ys : List Float) → added f (inTurn s xs ys) ≡ added f s + sumOver f xs ys
+unfolding inTurn added sumOver
+added-in-turn f s [] ys = omega arith
+added-in-turn f s (x ∷ xs) [] = omega arith
+added-in-turn f s (x ∷ xs) (y ∷ ys) = let h = added-in-turn f (plus s (product x y)) xs ys in omega arith
 
 -- the same from nothing on
-pub over-dot : (f : Float → Float → ℕ) (a b : List Float) → over f (dotSum a b) ≡ sumOver f a b
-unfolding over
-over-dot f a b = let h = over-in-turn f nothing a b in omega arith
+pub added-dot : (f : Float → Float → ℕ) (a b : List Float) → added f (dotSum a b) ≡ sumOver f a b
+unfolding added
+added-dot f a b = let h = added-in-turn f nothing a b in omega arith
 
 -- the products are as many as the elements
 pub as-many : (a b : List Float) → length a ≡ length b → sumOver one a b ≡ length a

@@ -12,7 +12,8 @@ use Rattle.units.specs.Units.{P, N, Number}
 use Rattle.units.proofs.Ranges.{zero-is, zero-units}
 use Rattle.units.proofs.Sums.{add-rounds, add-operands}
 use Rattle.units.proofs.Products.{mul-rounds}
-use Rattle.sums.specs.Sum.{Sum, nothing, product, plus, total, Intermediates, Factors, over, above, below, size, one, apart, NearBy, joined, roundings}
+use Rattle.sums.specs.Sum.{Sum, nothing, product, plus, total, Intermediates, above, below, size, apart, NearSum}
+use Rattle.sums.proofs.Count.{Factors, added, one, joined, roundings}
 use Rattle.sums.proofs.Steps.{Off, size-is, off-product, off-more, off-plus, off-nothing, add-zero-left, add-zero-right}
 
 -- ---- an infinity or a NaN never becomes finite again: where the result is finite, every intermediate result is
@@ -46,14 +47,14 @@ none-left zero k e = (refl, e)
 none-left (suc j) zero e = absurd (omega arith)
 none-left (suc j) (suc k) e = absurd (omega arith)
 
-over-none : (f : Float → Float → ℕ) (t : Sum) → roundings t ≡ 0 → over f t ≡ 0
-unfolding over roundings
-over-none f nothing e = refl
-over-none f (product x y) e = absurd (omega arith)
-over-none f (plus s t) e =
+added-none : (f : Float → Float → ℕ) (t : Sum) → roundings t ≡ 0 → added f t ≡ 0
+unfolding added roundings
+added-none f nothing e = refl
+added-none f (product x y) e = absurd (omega arith)
+added-none f (plus s t) e =
     let (j, k) = none-left (roundings s) (roundings t) e in
-    let p = over-none f s j in
-    let q = over-none f t k in
+    let p = added-none f s j in
+    let q = added-none f t k in
     omega arith
 
 zero-none : (t : Sum) → Factors t → Intermediates t → roundings t ≡ 0 → (P (total t) ≡ 0) × (N (total t) ≡ 0)
@@ -67,8 +68,8 @@ zero-none (plus s t) f i e =
     (p ∙ q, n ∙ m)
 
 -- the products' sizes are what they have above zero and what they have below
-sizes : (t : Sum) → over size t ≡ over above t + over below t
-unfolding over
+sizes : (t : Sum) → added size t ≡ added above t + added below t
+unfolding added
 sizes nothing = refl
 sizes (product x y) = size-is x y
 sizes (plus s t) = let p = sizes s in let q = sizes t in omega arith
@@ -76,32 +77,32 @@ sizes (plus s t) = let p = sizes s in let q = sizes t in omega arith
 -- ---- the error of a tree by its roundings
 -- what is known of a tree after k roundings
 abbrev Known : ℕ → Sum → Type 0
-Known k t = Off k (over one t) (total t) (over above t) (over below t) (over size t)
+Known k t = Off k (added one t) (total t) (added above t) (added below t) (added size t)
 
 -- the same number in every respect is known as well
-known-same : (t u : Sum) (k : ℕ) → (P (total u) ≡ P (total t)) × (N (total u) ≡ N (total t)) → ((g : Float → Float → ℕ) → over g u ≡ over g t) → Known k t → Known k u
+known-same : (t u : Sum) (k : ℕ) → (P (total u) ≡ P (total t)) × (N (total u) ≡ N (total t)) → ((g : Float → Float → ℕ) → added g u ≡ added g t) → Known k t → Known k u
 known-same t u k (p, n) e h = rw (p, n, e one, e above, e below, e size) h
 
 module _ (s t : Sum) (fs : Factors s) (ft : Factors t) (is : Intermediates s) (it : Intermediates t) (f : T (finite (total (plus s t)))) where
   known-left : (k : ℕ) → roundings s ≡ 0 → Known k t → Known k (plus s t)
-  unfolding total over
+  unfolding total added
   known-left k e =
       known-same t (plus s t) k (add-zero-left (total s) (total t) (total-number s fs is) (total-number t ft it) (zero-none s fs is e))
-      (λ g. let z = over-none g s e in omega arith)
+      (λ g. let z = added-none g s e in omega arith)
 
   known-right : (k : ℕ) → roundings t ≡ 0 → Known k s → Known k (plus s t)
-  unfolding total over
+  unfolding total added
   known-right k e =
       known-same s (plus s t) k (add-zero-right (total s) (total t) (total-number s fs is) (total-number t ft it) (zero-none t ft it e))
-      (λ g. let z = over-none g t e in omega arith)
+      (λ g. let z = added-none g t e in omega arith)
 
   known-both : (j k m : ℕ) → j ≤ m → k ≤ m → m < 2 ^ 24 → Known j s → Known k t → Known (m + 1) (plus s t)
-  unfolding total over
+  unfolding total added
   known-both j k m u v l h g =
-      let h' = rw (sizes s) at (off-more j m (over one s) (total s) (over above s) (over below s) (over size s) u h) in
-      let g' = rw (sizes t) at (off-more k m (over one t) (total t) (over above t) (over below t) (over size t) v g) in
+      let h' = rw (sizes s) at (off-more j m (added one s) (total s) (added above s) (added below s) (added size s) u h) in
+      let g' = rw (sizes t) at (off-more k m (added one t) (total t) (added above t) (added below t) (added size t) v g) in
       rw (sizes s, sizes t)
-      (off-plus m (over one s) (over one t) (total s) (total t) (over above s) (over below s) (over above t) (over below t) l (total-number s fs is) (total-number t ft it) f h' g')
+      (off-plus m (added one s) (added one t) (total s) (total t) (added above s) (added below s) (added above t) (added below t) l (total-number s fs is) (total-number t ft it) f h' g')
 
   known-plus : (j k : ℕ) → roundings s ≡ j → roundings t ≡ k → joined j k ≤ 2 ^ 24 → Known j s → Known k t → Known (joined j k) (plus s t)
   unfolding joined
@@ -118,7 +119,7 @@ joined-parts (suc j) zero = (omega arith, omega arith)
 joined-parts (suc j) (suc k) = (omega arith, omega arith)
 
 known : (t : Sum) → Factors t → Intermediates t → roundings t ≤ 2 ^ 24 → Known (roundings t) t
-unfolding total Factors Intermediates over roundings
+unfolding total Factors Intermediates added roundings
 known nothing f i l = off-nothing
 known (product x y) f i l = off-product x y (f .0) (f .1) i
 known (plus s t) f i l =
@@ -126,10 +127,10 @@ known (plus s t) f i l =
     known-plus s t (f .0) (f .1) (i .0) (i .1) (i .2) (roundings s) (roundings t) refl refl l (known s (f .0) (i .0) (omega arith)) (known t (f .1) (i .1) (omega arith))
 
 -- the law: a sum of n products in any order, none of which goes through more than k roundings, is within k u / (1 - k u) of the products' sizes and n 2 ^ -149
-pub tree-near : (t : Sum) (k : ℕ) → Factors t → Intermediates t → roundings t ≤ k → k ≤ 2 ^ 23 → NearBy k (over one t) (total t) (over above t) (over below t) (over size t)
+pub tree-near : (t : Sum) (k : ℕ) → Factors t → Intermediates t → roundings t ≤ k → k ≤ 2 ^ 23 → NearSum k (added one t) (total t) (added above t) (added below t) (added size t)
 tree-near t k f i l h =
-    whole-units (2 ^ 149) (apart (P (total t) * 2 ^ 149 + over below t) (N (total t) * 2 ^ 149 + over above t)) (k * over size t) (over one t)
-    (off-more (roundings t) k (over one t) (total t) (over above t) (over below t) (over size t) l (known t f i (omega arith)))
+    whole-units (2 ^ 149) (apart (P (total t) * 2 ^ 149 + added below t) (N (total t) * 2 ^ 149 + added above t)) (k * added size t) (added one t)
+    (off-more (roundings t) k (added one t) (total t) (added above t) (added below t) (added size t) l (known t f i (omega arith)))
   where
     whole-units : (U e s n : ℕ) → e * (2 ^ 24 - k) ≤ s + n * (U * 2 ^ 23) → e * (2 ^ 24 - k) ≤ s + n * U * (2 ^ 24 - k)
     whole-units U e s n g =
@@ -144,8 +145,8 @@ joined-sum (suc j) zero m n h g = omega arith
 joined-sum (suc j) (suc k) m n h g = omega arith
 
 -- n products, in whatever order they are added, go through at most n roundings: one each and n - 1 additions
-pub at-most-products : (t : Sum) → roundings t ≤ over one t
-unfolding roundings over
+pub at-most-products : (t : Sum) → roundings t ≤ added one t
+unfolding roundings added
 at-most-products nothing = omega arith
 at-most-products (product x y) = omega arith
-at-most-products (plus s t) = joined-sum (roundings s) (roundings t) (over one s) (over one t) (at-most-products s) (at-most-products t)
+at-most-products (plus s t) = joined-sum (roundings s) (roundings t) (added one s) (added one t) (at-most-products s) (at-most-products t)

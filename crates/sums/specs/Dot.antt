@@ -8,7 +8,7 @@ use lib.ListN.{length}
 use lib.Ieee.{Float, binary32, ofBits}
 use lib.Ieee.Scale.{finite}
 use Rattle.units.specs.Units.{Number}
-use Rattle.sums.specs.Sum.{Sum, nothing, product, plus, total, Intermediates, above, below, size, NearBy}
+use Rattle.sums.specs.Sum.{Sum, nothing, product, plus, total, Intermediates, above, below, size, NearSum}
 
 -- ---- accepted lists
 -- the same length n ≤ 65,536
@@ -52,8 +52,8 @@ sumOver f [] ys = 0
 sumOver f (x ∷ xs) [] = 0
 sumOver f (x ∷ xs) (y ∷ ys) = f x y + sumOver f xs ys
 
--- the whole promise: a and b are answered by a code, and by what the result place holds after the call where it held `before`
-pub record Dot (a b : List Float) (code : ℕ) (before after : Float) : Type 0 where
+-- the whole promise of a and b, answered by a code and the result r
+pub record Dot (a b : List Float) (code : ℕ) (r : Float) : Type 0 where
   -- code 2, BAD_LENGTH, for lists of different length or of more than 65,536 elements
   pub bad-length : ¬ Lengths a b → code ≡ 2
   -- else code 1, OUT_OF_RANGE, where an element is not finite
@@ -63,12 +63,10 @@ pub record Dot (a b : List Float) (code : ℕ) (before after : Float) : Type 0 w
   -- and only there: all else is success
   pub only-there : code ≡ 3 → ¬ Intermediates (dotSum a b)
   pub success : Accepts a b → code ≡ 0
-  -- a refusal writes nothing
-  pub kept : ¬ Accepts a b → after ≡ before
-  -- on success the place holds the sum in the program's order, a finite float
-  pub value : Accepts a b → after ≡ dotOf a b
-  pub finite : Accepts a b → Number after
-  -- |after - exact| ≤ G (sum of |a_i b_i|) + n 2 ^ -149 with G = n u / (1 - n u)
-  pub near : Accepts a b → NearBy (length a) (length a) after (sumOver above a b) (sumOver below a b) (sumOver size a b)
+  -- the result is the sum in the program's order, a finite float
+  pub value : Accepts a b → r ≡ dotOf a b
+  pub finite : Accepts a b → Number r
+  -- |r - exact| ≤ G (sum of |a_i b_i|) + n 2 ^ -149 with G = n u / (1 - n u)
+  pub near : Accepts a b → NearSum (length a) (length a) r (sumOver above a b) (sumOver below a b) (sumOver size a b)
   -- +0 for n = 0
-  pub empty : Accepts a b → length a ≡ 0 → after ≡ ofBits binary32 0
+  pub empty : Accepts a b → length a ≡ 0 → r ≡ ofBits binary32 0

@@ -3,6 +3,7 @@
 ghost use mathlib.Core.Path.{_≡_};
 ghost use lib.ListN.{length};
 ghost use lib.Ieee.Scale.{finite};
+ghost use Rattle.units.specs.Answers.{Ends, floatBits};
 ghost use Rattle.sums.specs.Dot.{Dot, dotOf, allFinite};
 
 // Each product in turn to what was added before, starting from +0.
@@ -31,12 +32,12 @@ fn is_finite(x: f32) -> bool
 fn all_finite(a: &[f32]) -> bool
     ensures { λ r. ⌜ r ≡ allFinite (now (a .entry)) ⌝ }
 {
-    let mut i = 0;
-    while i < a.len() {
-        if !is_finite(a[i]) {
+    let mut k = 0;
+    while k < a.len() {
+        if !is_finite(a[k]) {
             return false;
         }
-        i += 1;
+        k += 1;
     }
     true
 }
@@ -44,8 +45,8 @@ fn all_finite(a: &[f32]) -> bool
 // The sum of the products a_i b_i; code 2, 1 or 3 and nothing written where lengths, an element or an intermediate result are refused.
 // An infinity or a NaN among the elements or the intermediate results never becomes finite again: so one test, of the result, serves
 // for all of them, and only where it fails a second pass tells code 1 from code 3.
-pub fn dot(a: &[f32], b: &[f32], out: &mut f32) -> u32
-    ensures { λ code. ⌜ Dot (now (a .entry)) (now (b .entry)) code (now (out .entry)) (now (out .exit)) ⌝ }
+pub fn dot(a: &[f32], b: &[f32], out: &mut u32) -> u32
+    ensures { λ code. ⌜ Ends floatBits (Dot (now (a .entry)) (now (b .entry))) code (now (out .entry)) (now (out .exit)) ⌝ }
 {
     if a.len() != b.len() {
         return 2;
@@ -55,7 +56,7 @@ pub fn dot(a: &[f32], b: &[f32], out: &mut f32) -> u32
     }
     let s = in_turn(a, b);
     if is_finite(s) {
-        *out = s;
+        *out = f32::to_bits(s);
         return 0;
     }
     if !all_finite(a) {

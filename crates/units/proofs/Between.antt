@@ -1,8 +1,9 @@
 -- A float from -L to H units by its bit pattern: one test where the sign's bit is clear, another where it is set. Assumes nothing.
-use mathlib.Core.Path.{_≡_}
+use mathlib.Core.Path.{_≡_, sym}
+use mathlib.Core.Logic.{inl, inr}
 use mathlib.Core.Bool.{Bool, true, false, cond}
 use Prim.Native.Nat.{ℕ, _+_, _-_, _*_, _/_, _%_, _^_, _≤_, _<_}
-use native.Mathlib.Nat.{not-le-of-lt}
+use native.Mathlib.Nat.{le-trans, le-of-eq, not-le-of-lt}
 use native.Mathlib.Omega.{arith}
 use lib.Dec.{T, leb}
 use borrow.Author.Tests.{leb-true, leb-false}
@@ -10,6 +11,7 @@ use lib.Ieee.{Float, binary32, fits, toBits}
 use lib.Ieee.Bits.{toBits-lt}
 use Rattle.units.specs.Units.{mag, negative, P, N, Number, Between}
 use Rattle.units.specs.Tests.{Tells}
+use Rattle.units.proofs.Signs.{sides, size-sum}
 use Rattle.units.proofs.Patterns.{Shape, packed, packed-of, within, beyond}
 
 -- a clear sign's bit, and a set one
@@ -67,3 +69,11 @@ module _ (l i h j : ℕ) (low : Shape l i) (high : Shape h j) (x : Float) (f : T
 
       none : {k : ℕ} (b : ℕ) → k ≡ 0 → k ≤ b
       none b e = omega arith
+
+-- ---- as far on both sides: a range of sizes
+module _ {H : ℕ} {x : Float} where
+  pub size-between : Number x → mag x ≤ H → Between H H x
+  size-between n l = let e = size-sum x in record { number = n; at-least = omega arith; at-most = omega arith }
+
+  pub between-size : Between H H x → mag x ≤ H
+  between-size b = elim (sides x) [ inl h ↦ le-trans (le-of-eq (sym (h .0))) (b .at-most) | inr h ↦ le-trans (le-of-eq (sym (h .1))) (b .at-least) ]

@@ -1,4 +1,5 @@
 -- What number a float is: a whole number of units of 2 ^ -149, the least float above zero. Definitions only.
+use mathlib.Core.Path.{_≡_}
 use Prim.Native.Nat.{ℕ, _+_, _*_, _/_, _^_, _≤_, _<_}
 use mathlib.Core.Bool.{Bool, false, cond}
 use lib.Dec.{T}
@@ -28,6 +29,12 @@ N x = cond (negative x) (mag x) 0
 pub record Number (x : Float) : Type 0 where
   pub fits32 : T (fits binary32 x)
   pub is-finite : T (finite x)
+
+-- x is a finite float above zero
+pub record Positive (x : Float) : Type 0 where
+  pub number : Number x
+  pub sign : negative x ≡ false
+  pub above : 0 < mag x
 
 -- x is a finite float from -low to high units
 pub record Between (low high : ℕ) (x : Float) : Type 0 where

@@ -1,40 +1,36 @@
--- `circle::cos` meets its promise: each return is an accepted float, or one that the tests show is not. Assumes nothing.
+-- `circle::cos` meets its promise: the pattern's test tells whether x is accepted. Assumes nothing.
 use borrow.Author.Needs.{needs}
-use mathlib.Core.Path.{sym, subst, _∙_, ap}
-use Prim.Native.Nat.{ℕ, _+_, _%_, _^_}
+use mathlib.Core.Path.{sym, subst, ap, _∙_}
+use Prim.Native.Nat.{ℕ}
+use native.Mathlib.Omega.{arith}
 use lib.Dec.{T}
-use Rattle.fixed.proofs.Take.{no-nan}
-use Rattle.circle.specs.Wave.{wave, cosOf}
+use Rattle.circle.specs.Wave.{waveBits, quarterOn}
 use Rattle.circle.specs.Promise.{Accepts}
-use Rattle.circle.proofs.Taken.{size-few}
-use Rattle.circle.proofs.Promise.{in-range, too-low, too-high, cos-promised, cos-refused}
+use Rattle.circle.proofs.Range.{in-range, out-of-range}
+use Rattle.circle.proofs.Promise.{cos-success, cos-refusal}
 use Rattle.circle.proofs.cos.Statement.{statement}
 use Rattle.circle.proofs.cos.Tie as tie
 
--- the two tests say that x is accepted
-taken : (c : tie.Then2) → Accepts (c .before .before .args .x)
-taken c = in-range (c .before .before .args .x) (subst T (sym (c .before .before .good .0 .1)) tt) (c .before .if1 .taken) (c .if2 .taken)
+-- the test passed
+taken : (c : tie.Then1) → Accepts (c .before .before .args .x)
+taken c = in-range (c .before .before .args .x) (subst T (sym (c .before .before .good .0 .1)) tt) (omega (arith, rw (c .before .bits-of .ensures) at (c .if1 .taken)))
 
-float-to-bits-radians : tie.Need-float-to-bits-radians
-float-to-bits-radians c = no-nan (c .before .before .args .x) (taken c .number)
+bits-of-requires : tie.Need-bits-of-requires
+bits-of-requires c κs = tt
 
 radians-requires : tie.Need-radians-requires
-radians-requires c κs = size-few (c .before .before .args .x) (taken c)
+radians-requires c κs = search needs
 
 cosine-requires : tie.Need-cosine-requires
 cosine-requires c κs = search needs
 
 returns : tie.Need-returns
-unfolding cosOf
 returns c =
-    cos-promised (c .before .before .before .before .args .x) _ _ (taken (c .before .before))
-    (c .cosine .ensures ∙ ap (λ (n : ℕ). wave ((n + 2 ^ 62) % 2 ^ 64)) (c .before .radians .ensures))
+    cos-success (c .before .before .before .before .args .x) (taken (c .before .before))
+    (rw (c .before .before .before .bits-of .ensures) at (c .cosine .ensures ∙ ap (λ (n : ℕ). waveBits (quarterOn n)) (c .before .radians .ensures)))
 
 returns-2 : tie.Need-returns-2
-returns-2 c = cos-refused (c .before .before .args .x) _ (too-high (c .before .before .args .x) (c .if2 .left))
-
-returns-3 : tie.Need-returns-3
-returns-3 c = cos-refused (c .before .args .x) _ (too-low (c .before .args .x) (c .if1 .left))
+returns-2 c = let x = c .before .before .args .x in cos-refusal x (out-of-range x (omega (arith, rw (c .before .bits-of .ensures) at (c .if1 .left))))
 
 pub cos-spec : {M : Type 1} → statement M
-cos-spec = tie.close (tie.spec float-to-bits-radians radians-requires cosine-requires returns returns-2 returns-3)
+cos-spec = tie.close (tie.spec bits-of-requires radians-requires cosine-requires returns returns-2)

@@ -1,33 +1,23 @@
--- `circle::cospi` meets its promise: each return is an accepted float, or one that the tests show is not. Assumes nothing.
+-- `circle::cospi` meets its promise: the pattern's test tells whether x is finite. Assumes nothing.
 use borrow.Author.Needs.{needs}
-use mathlib.Core.Path.{sym, subst, _∙_, ap}
-use Prim.Native.Nat.{ℕ, _+_, _%_, _^_}
+use mathlib.Core.Path.{sym, subst, ap, _∙_}
+use Prim.Native.Nat.{ℕ}
+use native.Mathlib.Nat.{not-le-of-lt}
+use native.Mathlib.Omega.{arith}
 use lib.Dec.{T}
-use lib.Ieee.{nanBits}
 use Rattle.units.specs.Units.{Number}
-use Rattle.units.proofs.Ranges.{finite-within, not-finite, not-finite-below}
-use Rattle.fixed.proofs.Take.{no-nan}
-use Rattle.circle.specs.Wave.{wave, cosPiOf}
-use Rattle.circle.proofs.Promise.{cosPi-promised, cosPi-refused}
+use Rattle.units.proofs.Patterns.{finite-below, below-infinity}
+use Rattle.circle.specs.Wave.{waveBits, quarterOn}
+use Rattle.circle.proofs.Promise.{cosPi-success, cosPi-refusal}
 use Rattle.circle.proofs.cospi.Statement.{statement}
 use Rattle.circle.proofs.cospi.Tie as tie
 
-float-from-bits-if1 : tie.Need-float-from-bits-if1
-unfolding nanBits
-float-from-bits-if1 c = tt
+-- the test passed
+taken : (c : tie.Then1) → Number (c .before .before .args .x)
+taken c = finite-below (c .before .before .args .x) (subst T (sym (c .before .before .good .0 .1)) tt) (omega (arith, rw (c .before .bits-of .ensures) at (c .if1 .taken)))
 
-float-from-bits-if2 : tie.Need-float-from-bits-if2
-unfolding nanBits
-float-from-bits-if2 c = tt
-
--- the two tests say that x is finite
-taken : (c : tie.Then2) → Number (c .before .before .args .x)
-taken c =
-    let x = c .before .before .args .x in
-    record { fits32 = subst T (sym (c .before .before .good .0 .1)) tt; is-finite = finite-within x (c .before .if1 .taken) (c .if2 .taken) }
-
-float-to-bits-half-turns : tie.Need-float-to-bits-half-turns
-float-to-bits-half-turns c = no-nan (c .before .before .args .x) (taken c)
+bits-of-requires : tie.Need-bits-of-requires
+bits-of-requires c κs = tt
 
 half-turns-requires : tie.Need-half-turns-requires
 half-turns-requires c κs = search needs
@@ -36,16 +26,12 @@ cosine-requires : tie.Need-cosine-requires
 cosine-requires c κs = search needs
 
 returns : tie.Need-returns
-unfolding cosPiOf
 returns c =
-    cosPi-promised (c .before .before .before .before .args .x) _ _ (taken (c .before .before))
-    (c .cosine .ensures ∙ ap (λ (n : ℕ). wave ((n + 2 ^ 62) % 2 ^ 64)) (c .before .half-turns .ensures))
+    cosPi-success (c .before .before .before .before .args .x) (taken (c .before .before))
+    (rw (c .before .before .before .bits-of .ensures) at (c .cosine .ensures ∙ ap (λ (n : ℕ). waveBits (quarterOn n)) (c .before .half-turns .ensures)))
 
 returns-2 : tie.Need-returns-2
-returns-2 c = cosPi-refused (c .before .before .args .x) _ (λ h. not-finite (c .before .before .args .x) h (c .if2 .left))
-
-returns-3 : tie.Need-returns-3
-returns-3 c = cosPi-refused (c .before .args .x) _ (λ h. not-finite-below (c .before .args .x) h (c .if1 .left))
+returns-2 c = let x = c .before .before .args .x in cosPi-refusal x (λ h. not-le-of-lt (below-infinity x h) (omega (arith, rw (c .before .bits-of .ensures) at (c .if1 .left))))
 
 pub cospi-spec : {M : Type 1} → statement M
-cospi-spec = tie.close (tie.spec float-from-bits-if1 float-from-bits-if2 float-to-bits-half-turns half-turns-requires cosine-requires returns returns-2 returns-3)
+cospi-spec = tie.close (tie.spec bits-of-requires half-turns-requires cosine-requires returns returns-2)

@@ -6,7 +6,7 @@ use native.Mathlib.Nat.{mul-le-mul}
 use native.Mathlib.Omega.{arith}
 use Rattle.fixed.specs.Horner.{alternating}
 use Rattle.fixed.proofs.Alternating.{alternating-one, alternating-step}
-use Rattle.circle.specs.Kernel.{first, rest, squareOf, slopeOf, quarterSine}
+use Rattle.circle.specs.Kernel.{kernelFirst, kernelRest, squareOf, slopeOf, quarterSine}
 use Rattle.circle.proofs.quarter_sine.Statement.{statement}
 use Rattle.circle.proofs.quarter_sine.Tie as tie
 
@@ -45,8 +45,8 @@ module _ (c : tie.After-step4) where
       let z : squareOf w ≤ 4294967295 = omega (arith, square (c .before .before .before .before)) in
       mul-le-mul (c .step4 .ensures .1) z
 
-  made : c .step4 .result ≡ alternating 4294967296 rest (squareOf w)
-  unfolding rest
+  made : c .step4 .result ≡ alternating 4294967296 kernelRest (squareOf w)
+  unfolding kernelRest
   made =
       let s3 = c .before in
       let s2 = s3 .before in
@@ -75,11 +75,11 @@ cast-result : tie.Need-cast-result
 cast-result c = search needs
 
 mul-result : tie.Need-mul-result
-mul-result c = omega (arith, product (w c) (first - c .step4 .result * squareOf (w c) / 8589934592) (omega arith) (omega arith))
+mul-result c = omega (arith, product (w c) (kernelFirst - c .step4 .result * squareOf (w c) / 8589934592) (omega arith) (omega arith))
 
 returns : tie.Need-returns
 unfolding slopeOf quarterSine
-returns c = ap (λ (p : ℕ). w c * (first - p * squareOf (w c) / 8589934592) / 2147483648) (made c)
+returns c = ap (λ (p : ℕ). w c * (kernelFirst - p * squareOf (w c) / 8589934592) / 2147483648) (made c)
 
 pub quarter-sine-spec : {M : Type 1} → statement M
 quarter-sine-spec = tie.close (tie.spec mul-z cast-z step-requires step-requires-2 step-requires-3 step-requires-4 cast-p0 cast-p0-2 mul-p0 cast-p0-3 sub-p0 cast-result mul-result returns)

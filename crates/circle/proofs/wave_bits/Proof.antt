@@ -4,11 +4,12 @@ use mathlib.Core.Path.{_≡_, sym, ap, _∙_}
 use Prim.Native.Nat.{ℕ, _+_, _*_, _/_, _^_, _≤_, _<_}
 use native.Mathlib.Nat.{le-trans, le-of-eq}
 use native.Mathlib.Omega.{arith}
+use borrow.Author.Tests.{eq-eqb, ne-eqb}
 use Rattle.fixed.specs.Rounded.{nearestBits}
 use Rattle.fixed.proofs.Rounding.{bits-fit}
 use Rattle.circle.specs.Kernel.{quarterSine}
-use Rattle.circle.specs.Wave.{sizeOf}
-use Rattle.circle.proofs.Pattern.{normal, size-top, wave-zero, wave-some}
+use Rattle.circle.specs.Wave.{sizeOf, waveBits}
+use Rattle.circle.proofs.Pattern.{normal, size-top}
 use Rattle.circle.proofs.wave_bits.Statement.{statement}
 use Rattle.circle.proofs.wave_bits.Tie as tie
 
@@ -24,7 +25,8 @@ unfolding sizeOf
 size c = c .quarter-sine .ensures ∙ ap quarterSine (c .before .place .ensures)
 
 returns : tie.Need-returns
-returns c = sym (wave-zero (c .before .before .before .args .phase) (sym (size (c .before)) ∙ c .if1 .taken))
+unfolding waveBits
+returns c = rw (eq-eqb _ _ (sym (size (c .before)) ∙ c .if1 .taken))
 
 cast-result : tie.Need-cast-result
 cast-result c = search needs
@@ -44,10 +46,11 @@ add-result c =
     omega arith
 
 returns-2 : tie.Need-returns-2
+unfolding waveBits
 returns-2 c =
     let t = c .before .before .before .before .args .phase in
     let e = size (c .before .before) in
-    ap (λ (b : ℕ). t / 2 ^ 63 * 2147483648 + b) (c .nearest-bits .ensures ∙ ap (λ (n : ℕ). nearestBits n 157) e) ∙ sym (wave-some t (λ z. c .before .if1 .left (e ∙ z)))
+    rw (ne-eqb (sizeOf t) _ (λ z. c .before .if1 .left (e ∙ z))) (ap (λ (b : ℕ). t / 2 ^ 63 * 2147483648 + b) (c .nearest-bits .ensures ∙ ap (λ (n : ℕ). nearestBits n 157) e))
 
 pub wave-bits-spec : {M : Type 1} → statement M
 wave-bits-spec = tie.close (tie.spec place-requires quarter-sine-requires returns cast-result mul-result nearest-bits-requires add-result returns-2)

@@ -6,7 +6,7 @@ use native.Mathlib.Nat.{le-of-lt, mul-le-mul}
 use native.Mathlib.Omega.{arith}
 use lib.Ieee.{binary32, toBits}
 use Rattle.fixed.proofs.Take.{no-nan}
-use Rattle.logs.specs.Fixed.{nearer, fixedBits, fixedOf}
+use Rattle.logs.specs.Value.{nearer, fixedBits, fixedOf}
 use Rattle.logs.proofs.Reduction.{bits-few, slope-fits, no-borrow}
 use Rattle.logs.proofs.Logarithm.{fixed-promised}
 use Rattle.logs.proofs.fixed_log2.Statement.{statement}

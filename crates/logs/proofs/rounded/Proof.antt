@@ -1,11 +1,10 @@
 -- `logs::rounded` meets its contract: sign and digits do not meet. Assumes nothing.
 use borrow.Author.Needs.{needs}
-use mathlib.Core.Path.{refl}
-use Prim.Native.Nat.{_*_, _≤_, _<_}
+use mathlib.Core.Path.{_≡_, refl}
 use native.Mathlib.Omega.{arith}
-use Rattle.logs.specs.Log2.{roundedBits}
-use Rattle.fixed.proofs.Rounding.{bits-fit}
-use Rattle.logs.proofs.Rounding.{normal, sign-fits}
+use Rattle.fixed.specs.Rounded.{nearestBits}
+use Rattle.logs.specs.Value.{distanceOf, roundedBits}
+use Rattle.logs.proofs.Rounding.{normal, rounded-fits}
 use Rattle.logs.proofs.rounded.Statement.{statement}
 use Rattle.logs.proofs.rounded.Tie as tie
 
@@ -20,10 +19,10 @@ nearest-bits-requires c κs = normal (c .distance .result)
 
 add-result : tie.Need-add-result
 add-result c =
-    let w = c .before .before .before .args .w in
-    let s : c .before .before .sign .result ≤ 2147483648 = rw (c .before .before .sign .ensures) (sign-fits w) in
-    let b : c .nearest-bits .result < 255 * 8388608 = rw (c .nearest-bits .ensures) (bits-fit (c .before .distance .result) 135 (omega arith) (normal (c .before .distance .result))) in
-    omega arith
+    let s = c .before .before .sign .ensures in
+    let d = c .before .distance .ensures in
+    let b : c .nearest-bits .result ≡ nearestBits (distanceOf (c .before .before .before .args .w)) 135 = rw (← d) (c .nearest-bits .ensures) in
+    omega (arith, rounded-fits (c .before .before .before .args .w) (c .before .before .before .pre))
 
 returns : tie.Need-returns
 unfolding roundedBits

@@ -2,7 +2,7 @@
 use mathlib.Core.Path.{sym}
 use Prim.Native.Nat.{_-_, _*_, _%_}
 use Rattle.fixed.proofs.Horner.{horner-one, horner-step}
-use Rattle.logs.specs.Fixed.{slope}
+use Rattle.logs.specs.Value.{slope}
 use borrow.Author.Needs.{needs}
 use Rattle.logs.proofs.slope.Statement.{statement}
 use Rattle.logs.proofs.slope.Tie as tie

@@ -1,65 +1,51 @@
 -- `loudness::fit` meets its contract. Assumes nothing.
-use borrow.Author.Needs.{needs}
-use mathlib.Core.Path.{refl, sym, ap₂}
-use mathlib.Core.Bool.{false, true≢false}
-use Prim.Native.Nat.{ℕ, _-_}
-use native.Mathlib.Nat.{le-trans, le-of-eq, lt-of-le-of-lt, sub-le}
+use mathlib.Core.Path.{_≡_, refl, sym, ap₂}
+use Prim.Native.Nat.{ℕ, _-_, _*_, _^_, _≤_, _<_}
+use native.Mathlib.Nat.{le-trans, le-of-eq}
 use native.Mathlib.Omega.{arith}
-use lib.Ieee.{Float}
-use Rattle.loudness.specs.Map.{Levels, Channel}
-use Rattle.loudness.specs.Fitted.{Fits}
-use Rattle.loudness.proofs.Growth.{low-sound, high-sound}
-use Rattle.loudness.proofs.Known.{known}
+use Rattle.loudness.specs.Value.{riseOf}
+use Rattle.loudness.specs.Fitted.{HasSlope}
+use Rattle.loudness.proofs.Known.{accepted, low-sound, high-sound, rises}
+use Rattle.loudness.proofs.Growth.{few, span-long, span-word, b≤m}
 use Rattle.loudness.proofs.fit.Statement.{statement}
 use Rattle.loudness.proofs.fit.Tie as tie
 
-in-order-requires : tie.Need-in-order-requires
-in-order-requires c κs = search needs
+fixed-log2-requires : tie.Need-fixed-log2-requires
+fixed-log2-requires c κs = accepted (low-sound (c .pre .levels))
 
--- the test was passed
-levels : (c : tie.Then1) → Levels (c .before .before .args .b) (c .before .before .args .m)
-levels c = c .before .in-order .ensures .yes-levels (c .if1 .taken)
+fixed-log2-requires-2 : tie.Need-fixed-log2-requires-2
+fixed-log2-requires-2 c κs = accepted (high-sound (c .before .pre .levels))
 
-level-requires : tie.Need-level-requires
-level-requires c κs = low-sound _ _ (levels (c .before .before))
+sub-slope-over : tie.Need-sub-slope-over
+sub-slope-over c = c .before .before .pre .order
 
-level-requires-2 : tie.Need-level-requires-2
-level-requires-2 c κs = high-sound _ _ (levels (c .before .before .before))
+sub-slope-over-2 : tie.Need-sub-slope-over-2
+sub-slope-over-2 c =
+    let s = c .before .before in
+    let l = s .pre .levels in
+    le-trans (le-of-eq (c .before .fixed-log2 .ensures .value)) (le-trans (rises (low-sound l) (high-sound l) (b≤m _ _ _ _ (s .pre))) (le-of-eq (sym (c .fixed-log22 .ensures .value))))
 
-sub-t10 : tie.Need-sub-t10
-sub-t10 c =
-    let l = levels (c .before .before .before .before) in
-    let s = c .before .before .before .before .before .before in
-    let r = known .rises (s .args .b) (s .args .m) (low-sound _ _ l) (high-sound _ _ l) (let o = l .octave in omega arith) in
-    le-trans (le-of-eq (c .before .level .ensures .value)) (le-trans r (le-of-eq (sym (c .level2 .ensures .value))))
+-- the rise from b to m
+rise : (c : tie.After-fixed-log22) → (c .fixed-log22 .result - c .before .fixed-log2 .result) * 32 ≡ riseOf (c .before .before .args .b) (c .before .before .args .m)
+unfolding riseOf
+rise c = ap₂ (λ (x y : ℕ). (x - y) * 32) (c .fixed-log22 .ensures .value) (c .before .fixed-log2 .ensures .value)
+
+mul-slope-over : tie.Need-mul-slope-over
+mul-slope-over c = omega (arith, rise c, span-word _ _ _ _ (c .before .before .pre))
+
+slope-over-requires : tie.Need-slope-over-requires
+slope-over-requires c κs = (few _ _ _ _ (c .before .before .pre), le-trans (span-long _ _ _ _ (c .before .before .pre)) (le-of-eq (sym (rise c))))
 
 returns : tie.Need-returns
-returns c = record {
-  same-b = refl;
-  same-m = refl;
-  same-t = refl;
-  same-c = refl;
-  good = λ e. record {
-    channel = record { levels = levels (c .before .before .before .before); order = c .before .before .before .if2 .taken; steps = c .before .before .if3 .taken };
-    low = c .before .level .ensures .value;
-    span = ap₂ (λ (x y : ℕ). x - y) (c .level2 .ensures .value) (c .before .level .ensures .value);
-    small = lt-of-le-of-lt (sub-le (c .level2 .result) (c .before .level .result)) (c .level2 .ensures .small);
-  };
-  bad = λ e. absurd (true≢false e);
-}
-
--- what is returned where a test fails
-spoilt : (b m : Float) (t c : ℕ) → ¬ Channel b m t c → Fits b m t c (record { ok = false; b = b; m = m; t = t; c = c; low = 0; span = 0 })
-spoilt b m t c n = record { same-b = refl; same-m = refl; same-t = refl; same-c = refl; good = λ e. absurd (true≢false (sym e)); bad = λ e. n }
-
-returns-2 : tie.Need-returns-2
-returns-2 c = spoilt _ _ _ _ (λ h. let k = h .steps in omega arith)
-
-returns-3 : tie.Need-returns-3
-returns-3 c = spoilt _ _ _ _ (λ h. let k = h .order in omega arith)
-
-returns-4 : tie.Need-returns-4
-returns-4 c = spoilt _ _ _ _ (λ h. c .before .in-order .ensures .no-levels (c .if1 .left) (h .levels))
+returns c =
+    let s = c .before .before .before in
+    record {
+      same-b = refl;
+      same-m = refl;
+      same-t = refl;
+      same-c = refl;
+      holds = record { segment = s .pre; low = c .before .before .fixed-log2 .ensures .value; slope = rw (rise (c .before)) at (c .slope-over .ensures) };
+    }
 
 pub fit-spec : {M : Type 1} → statement M
-fit-spec = tie.close (tie.spec in-order-requires level-requires level-requires-2 sub-t10 returns returns-2 returns-3 returns-4)
+fit-spec = tie.close (tie.spec fixed-log2-requires fixed-log2-requires-2 sub-slope-over sub-slope-over-2 mul-slope-over slope-over-requires returns)

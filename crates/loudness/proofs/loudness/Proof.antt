@@ -1,32 +1,32 @@
 -- `loudness::loudness` meets its promise. Assumes nothing.
-use borrow.Author.Needs.{needs}
-use mathlib.Core.Path.{_≡_, sym, _∙_, subst}
-use mathlib.Core.Bool.{true}
+use mathlib.Core.Path.{_≡_, _∙_}
 use Prim.Native.Nat.{ℕ}
-use lib.Dec.{T}
 use lib.Ieee.{Float}
-use Rattle.loudness.specs.Map.{Channel, Envelope, stepOf}
+use Rattle.loudness.specs.Map.{Channel, Envelope}
+use Rattle.loudness.specs.Value.{stepOf}
 use Rattle.loudness.specs.Fitted.{Fits}
 use Rattle.loudness.specs.declared.Fitted.{Fitted}
-use Rattle.loudness.proofs.Tests.{envelope-yes, below-zero, above-one}
-use Rattle.loudness.proofs.Promise.{promised, out-of-range, bad-channel}
+use Rattle.loudness.proofs.Promise.{segment, success, refusal, no-channel}
 use Rattle.loudness.proofs.loudness.Statement.{statement}
 use Rattle.loudness.proofs.loudness.Tie as tie
 
--- what was fitted is the caller's channel
-fitted : {b m : Float} {t c : ℕ} (f : Fitted) → Fits b m t c f → f .ok ≡ true → Channel b m t c
-fitted f h e = rw (← h .same-b, ← h .same-m, ← h .same-t, ← h .same-c) (h .good e .channel)
+is-channel-requires : tie.Need-is-channel-requires
+is-channel-requires c κs = tt
+
+is-envelope-requires : tie.Need-is-envelope-requires
+is-envelope-requires c κs = tt
+
+channel : (c : tie.Then1) → Channel (c .before .before .before .args .b) (c .before .before .before .args .m) (c .before .before .before .args .t) (c .before .before .before .args .c)
+channel c = c .before .before .is-channel .ensures .if-true (c .if1 .taken)
+
+envelope : (c : tie.Then2) → Envelope (c .before .before .before .before .args .a)
+envelope c = c .before .before .is-envelope .ensures .if-true (c .if2 .taken)
 
 fit-requires : tie.Need-fit-requires
-fit-requires c κs = search needs
-
-envelope : (c : tie.Then3) → Envelope (c .before .before .before .before .args .a)
-envelope c =
-    let s = c .before .before .before .before in
-    envelope-yes (s .args .a) (subst T (sym (s .good .1 .1 .1 .1 .0 .1)) tt) (c .before .if2 .taken) (c .if3 .taken)
+fit-requires c κs = segment (channel (c .before))
 
 step-requires : tie.Need-step-requires
-step-requires c κs = (c .before .before .before .fit .ensures .good (c .before .before .if1 .taken), envelope c)
+step-requires c κs = (c .fit .ensures .holds, envelope (c .before))
 
 -- the fitted channel's step is the channel's
 same-step : {b m : Float} {t c : ℕ} (f : Fitted) (a : Float) → Fits b m t c f → stepOf (f .b) (f .m) (f .t) (f .c) a ≡ stepOf b m t c a
@@ -34,28 +34,14 @@ same-step f a h = rw (h .same-b, h .same-m, h .same-t, h .same-c)
 
 returns : tie.Need-returns
 returns c =
-    let s = c .before .before .before .before .before in
-    let f = c .before .before .before .before .fit .result in
-    let h = c .before .before .before .before .fit .ensures in
-    promised (s .args .b) (s .args .m) (s .args .t) (s .args .c) (fitted f h (c .before .before .before .if1 .taken)) (s .args .a) _ (c .step .result) (envelope (c .before))
-    (c .step .ensures ∙ same-step f (s .args .a) h)
+    let u = c .before .before in
+    success _ _ _ _ _ (channel (u .before)) (envelope u) (c .step .ensures ∙ same-step (c .before .fit .result) _ (c .before .fit .ensures))
 
 returns-2 : tie.Need-returns-2
-returns-2 c =
-    let s = c .before .before .before .before in
-    let t = c .before .before .before in
-    out-of-range (s .args .b) (s .args .m) (s .args .t) (s .args .c) (s .args .a) _ (fitted (t .fit .result) (t .fit .ensures) (c .before .before .if1 .taken)) (above-one (s .args .a) (c .if3 .left))
+returns-2 c = refusal _ _ _ _ _ (channel (c .before)) (c .before .before .is-envelope .ensures .if-false (c .if2 .left))
 
 returns-3 : tie.Need-returns-3
-returns-3 c =
-    let s = c .before .before .before in
-    let t = c .before .before in
-    out-of-range (s .args .b) (s .args .m) (s .args .t) (s .args .c) (s .args .a) _ (fitted (t .fit .result) (t .fit .ensures) (c .before .if1 .taken)) (below-zero (s .args .a) (c .if2 .left))
-
-returns-4 : tie.Need-returns-4
-returns-4 c =
-    let s = c .before .before in
-    bad-channel (s .args .b) (s .args .m) (s .args .t) (s .args .c) (s .args .a) _ (c .before .fit .ensures .bad (c .if1 .left))
+returns-3 c = no-channel _ _ _ _ _ (c .before .before .is-channel .ensures .if-false (c .if1 .left))
 
 pub loudness-spec : {M : Type 1} → statement M
-loudness-spec = tie.close (tie.spec fit-requires step-requires returns returns-2 returns-3 returns-4)
+loudness-spec = tie.close (tie.spec is-channel-requires is-envelope-requires fit-requires step-requires returns returns-2 returns-3)

@@ -33,7 +33,7 @@ loop-less : tie.Need-loop-less Inv-loop μ-loop Inv-loop2 μ-loop2
 loop-less c = omega arith
 
 loop-again : tie.Need-loop-again Inv-loop μ-loop Inv-loop2 μ-loop2
-loop-again c = up-small (c .before .before .args .n) (c .before .loop .s) (c .before .before .pre .1) (c .loop-test .taken)
+loop-again c = up-small (c .before .before .args .n) (c .before .loop .s) (c .before .before .pre .1) (omega (arith, c .loop-test .taken))
 
 loop2-holds : tie.Need-loop2-holds Inv-loop μ-loop Inv-loop2 μ-loop2
 loop2-holds c = (c .before .loop .inv, c .loop-test .left)
@@ -45,7 +45,7 @@ mul-loop2 : tie.Need-mul-loop2 Inv-loop μ-loop Inv-loop2 μ-loop2
 mul-loop2 c = omega (arith, square (c .loop2 .s) (c .loop2 .inv .0))
 
 sub-s : tie.Need-sub-s Inv-loop μ-loop Inv-loop2 μ-loop2
-sub-s c = down-room (c .before .before .before .before .args .n) (c .before .loop2 .s) (omega arith) (c .loop2-test .taken)
+sub-s c = down-room (c .before .loop2 .s) (omega (arith, c .loop2-test .taken))
 
 loop2-less : tie.Need-loop2-less Inv-loop μ-loop Inv-loop2 μ-loop2
 loop2-less c = let k = sub-s c in omega arith
@@ -54,7 +54,7 @@ loop2-again : tie.Need-loop2-again Inv-loop μ-loop Inv-loop2 μ-loop2
 loop2-again c = (omega arith, down-over (c .before .before .before .before .args .n) (c .before .loop2 .s) (sub-s c) (c .loop2-test .taken))
 
 returns : tie.Need-returns Inv-loop μ-loop Inv-loop2 μ-loop2
-returns c = record { over = c .before .loop2 .inv .1; under = c .loop2-test .left }
+returns c = record { half-above = c .before .loop2 .inv .1; half-below = c .loop2-test .left }
 
 pub settle-root-spec : {M : Type 1} → statement M
 settle-root-spec =

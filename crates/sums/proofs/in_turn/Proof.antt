@@ -11,14 +11,14 @@ use Rattle.sums.proofs.in_turn.Statement.{statement}
 use Rattle.sums.proofs.in_turn.Tie as tie
 
 abbrev Inv-loop : tie.InvT-loop
-Inv-loop a b n₀ s₀ i₀ s i = (i ≤ length a) × (run s (drop i a) (drop i b) ≡ dotOf a b)
+Inv-loop a b n₀ s₀ i₀ s i = run s (drop i a) (drop i b) ≡ dotOf a b
 
 abbrev μ-loop : tie.MeasureT-loop
 μ-loop a b n₀ s₀ i₀ s i = length a - i
 
 loop-holds : tie.Need-loop-holds Inv-loop μ-loop
 unfolding total
-loop-holds c = (omega arith, run-total nothing (c .args .a .now) (c .args .b .now))
+loop-holds c = run-total nothing (c .args .a .now) (c .args .b .now)
 
 -- the second list is as long as the first
 below-second : (c : tie.In-loop Inv-loop μ-loop) → c .before .loop .i < length (c .before .before .args .b .now)
@@ -43,10 +43,10 @@ loop-less : tie.Need-loop-less Inv-loop μ-loop
 loop-less c = omega arith
 
 loop-again : tie.Need-loop-again Inv-loop μ-loop
-loop-again c = (omega arith, sym (run-step (c .before .before .before .loop .s) (c .before .before .before .before .args .a .now) (c .before .before .before .before .args .b .now) (c .before .before .before .loop .i) (c .before .before .loop-test .taken) (below-second (c .before .before))) ∙ c .before .before .before .loop .inv .1)
+loop-again c = sym (run-step (c .before .before .before .loop .s) (c .before .before .before .before .args .a .now) (c .before .before .before .before .args .b .now) (c .before .before .before .loop .i) (c .before .before .loop-test .taken) (below-second (c .before .before))) ∙ c .before .before .before .loop .inv
 
 returns : tie.Need-returns Inv-loop μ-loop
-returns c = sym (run-end (c .before .loop .s) (c .before .before .args .a .now) (c .before .before .args .b .now) (c .before .loop .i) (c .loop-test .left)) ∙ c .before .loop .inv .1
+returns c = sym (run-end (c .before .loop .s) (c .before .before .args .a .now) (c .before .before .args .b .now) (c .before .loop .i) (c .loop-test .left)) ∙ c .before .loop .inv
 
 pub in-turn-spec : {M : Type 1} → statement M
 in-turn-spec = tie.close (tie.spec Inv-loop μ-loop loop-holds mul-s shared-slice-read-s mul-s-2 shared-slice-read-s-2 add-i loop-less loop-again returns)

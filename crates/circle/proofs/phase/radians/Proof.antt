@@ -4,7 +4,7 @@ use mathlib.Core.Path.{_≡_, ap, _∙_}
 use Prim.Native.Nat.{ℕ, _+_, _*_, _/_, _%_, _^_, _≤_}
 use native.Mathlib.Nat.{mul-le-mul}
 use native.Mathlib.Omega.{arith}
-use Rattle.circle.specs.Phase.{digits, windowOf, radians}
+use Rattle.circle.specs.Phase.{significandOf, windowOf, radians}
 use Rattle.circle.proofs.phase.radians.Statement.{statement}
 use Rattle.circle.proofs.phase.radians.Tie as tie
 
@@ -37,10 +37,10 @@ joined m w = through (w / 4294967296) (w % 4294967296) (omega arith)
         reduced a b = omega arith
 
 mul-wrapping-add-u64 : tie.Need-mul-wrapping-add-u64
-mul-wrapping-add-u64 c = omega (arith, product (digits (c .before .before .args .b)) (c .window .result / 4294967296) (omega arith) (omega arith))
+mul-wrapping-add-u64 c = omega (arith, product (significandOf (c .before .before .args .b)) (c .window .result / 4294967296) (omega arith) (omega arith))
 
 mul-wrapping-add-u64-2 : tie.Need-mul-wrapping-add-u64-2
-mul-wrapping-add-u64-2 c = omega (arith, product (digits (c .before .before .args .b)) (c .window .result % 4294967296) (omega arith) (omega arith))
+mul-wrapping-add-u64-2 c = omega (arith, product (significandOf (c .before .before .args .b)) (c .window .result % 4294967296) (omega arith) (omega arith))
 
 wrapping-add-u64-requires : tie.Need-wrapping-add-u64-requires
 wrapping-add-u64-requires c κs = search needs
@@ -51,8 +51,8 @@ returns c =
     let b = c .before .before .before .args .b in
     let w = c .before .window in
     c .wrapping-add-u64 .ensures
-    ∙ joined (digits b) (w .result)
-    ∙ ap (λ (n : ℕ). digits b * n % 2 ^ 64) (w .ensures ∙ ap windowOf (c .before .before .beyond .ensures))
+    ∙ joined (significandOf b) (w .result)
+    ∙ ap (λ (n : ℕ). significandOf b * n % 2 ^ 64) (w .ensures ∙ ap windowOf (c .before .before .beyond .ensures))
 
 pub radians-spec : {M : Type 1} → statement M
 radians-spec =

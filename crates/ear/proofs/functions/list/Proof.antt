@@ -6,10 +6,10 @@ use Rattle.ear.proofs.functions.list.Statement.{statement}
 use Rattle.ear.proofs.functions.list.Tie as tie
 
 abbrev Inv-loop : tie.InvT-loop
-Inv-loop floats i₀ i = i ≤ length floats
+Inv-loop results i₀ i = i ≤ length results
 
 abbrev μ-loop : tie.MeasureT-loop
-μ-loop floats i₀ i = length floats - i
+μ-loop results i₀ i = length results - i
 
 pub list-spec : {M : Type 1} → statement M
 list-spec =

@@ -1,0 +1,66 @@
+#include "peers.h"
+
+#include <math.h>
+
+#include "../straight.h"
+
+#define PI 3.14159274f
+
+float reciprocal_root(float x)
+{
+    return 1 / newlib_sqrtf(x);
+}
+
+/* newlib has no function of pi x: these take pi * x, rounded */
+float sine_of_pi(float x)
+{
+    return sinf(PI * x);
+}
+
+float cosine_of_pi(float x)
+{
+    return cosf(PI * x);
+}
+
+float plain_loop(const float *a, const float *b, uint32_t n)
+{
+    float sum = 0;
+    for (uint32_t i = 0; i < n; i++)
+        sum += a[i] * b[i];
+    return sum;
+}
+
+uint32_t softmax_in_c(const float *x, uint64_t n, float *p)
+{
+    return straight_softmax(exp2f, x, n, p);
+}
+
+uint32_t map_in_c(float b, float m, uint32_t t, uint32_t c, float a, uint32_t *out)
+{
+    return straight_map(log2f, (struct channel){b, m, t, c}, a, out);
+}
+
+static struct {
+    struct channel channel;
+    float log_b, slope;
+} fitted;
+
+void fit_in_c(float b, float m, uint32_t t, uint32_t c)
+{
+    fitted.channel = (struct channel){b, m, t, c};
+    fitted.log_b = log2f(b);
+    fitted.slope = (float)(c - t) / (log2f(m) - fitted.log_b);
+}
+
+uint32_t fitted_in_c(float a, uint32_t *out)
+{
+    if (!(a >= 0 && a <= 1))
+        return EAR_OUT_OF_RANGE;
+    if (a <= fitted.channel.b)
+        *out = fitted.channel.t;
+    else if (a >= fitted.channel.m)
+        *out = fitted.channel.c;
+    else
+        *out = fitted.channel.t + (uint32_t)(0.5f + fitted.slope * (log2f(a) - fitted.log_b));
+    return EAR_OK;
+}

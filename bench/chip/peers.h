@@ -1,0 +1,19 @@
+/* What a chip with a single-precision float unit would use in place of our functions. */
+#ifndef PEERS_H
+#define PEERS_H
+
+#include <stdint.h>
+
+float newlib_sqrtf(float x); /* newlib's root in whole numbers: its own for this chip is the root instruction */
+float reciprocal_root(float x);
+float sine_of_pi(float x);
+float cosine_of_pi(float x);
+float plain_loop(const float *a, const float *b, uint32_t n);
+uint32_t softmax_in_c(const float *x, uint64_t n, float *p);
+uint32_t map_in_c(float b, float m, uint32_t t, uint32_t c, float a, uint32_t *out);
+
+/* The same map with what depends on the channel computed once, by fit_in_c. */
+void fit_in_c(float b, float m, uint32_t t, uint32_t c);
+uint32_t fitted_in_c(float a, uint32_t *out);
+
+#endif

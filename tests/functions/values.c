@@ -1,0 +1,146 @@
+/* Document 01's values, by bit pattern. */
+#include <inttypes.h>
+#include <math.h>
+#include <stdio.h>
+
+#include "earmath.h"
+#include "judge.h"
+#include "report.h"
+#include "section8.h"
+
+static bool gives(const char *name, single call, uint32_t x, uint32_t want)
+{
+    float result = float_of(0x7fa5a5a5);
+    uint32_t code = call(float_of(x), &result);
+    if (code == EAR_OK && bits_of(result) == want)
+        return true;
+    printf("      %s of %08" PRIx32 ": code %" PRIu32 ", result %08" PRIx32 ", and not %08" PRIx32 "\n",
+           name, x, code, bits_of(result), want);
+    return false;
+}
+
+/* Roots that need no rounding, and both zeros, whose sign is kept. */
+static const uint32_t exact_roots[][2] = {
+    {0x00000000, 0x00000000}, {0x80000000, 0x80000000}, {0x3f800000, 0x3f800000},
+    {0x40800000, 0x40000000}, {0x00000008, 0x1b000000}, {0x7e800000, 0x5f000000},
+};
+
+enum { EXACT_ROOTS = sizeof exact_roots / sizeof exact_roots[0] };
+
+/* Powers that need no rounding, up to both ends of the range, and the floats
+ * next to whole numbers and next to zero, where pieces have to meet. */
+static const uint32_t edge_powers[][2] = {
+    {0x00000000, 0x3f800000}, {0x80000000, 0x3f800000}, {0x3f800000, 0x40000000}, {0x41200000, 0x44800000},
+    {0xc2fc0000, 0x00800000}, {0x42fe0000, 0x7f000000}, {0x00000001, 0x3f800000}, {0x80000001, 0x3f800000},
+    {0x3f7fffff, 0x3fffffff}, {0x3f800001, 0x40000001}, {0xbf7fffff, 0x3f000000}, {0xc2fbffff, 0x0080002c},
+    {0x33800000, 0x3f800000}, {0xb3000000, 0x3f800000}, {0x3f000000, 0x3fb504f3}, {0xc1200001, 0x3a7ffff5},
+};
+
+enum { EDGE_POWERS = sizeof edge_powers / sizeof edge_powers[0] };
+
+static void powers(void)
+{
+    int rows = 0, edges = 0;
+    for (int i = 0; i < POWER_ROWS; i++)
+        rows += gives("ear_exp2", ear_exp2, power_rows[i][0], power_rows[i][1]);
+    for (int i = 0; i < EDGE_POWERS; i++)
+        edges += gives("ear_exp2", ear_exp2, edge_powers[i][0], edge_powers[i][1]);
+    group(rows == POWER_ROWS, "ear_exp2: %d of %d values of document 01, section 8", rows, POWER_ROWS);
+    group(edges == EDGE_POWERS, "ear_exp2: %d of %d powers at and next to whole numbers", edges, EDGE_POWERS);
+}
+
+/* The floats next to 1, to a half and to the cut between two pieces. */
+static const uint32_t edge_logarithms[][2] = {
+    {0x3f7fffff, 0xb3b8aa3c}, {0x3f800001, 0x3438aa3a}, {0x3effffff, 0xbf800001}, {0x3f000001, 0xbf7ffffd},
+    {0x3fb7ffff, 0x3f060826}, {0x3fb80000, 0x3f060828}, {0x3f37ffff, 0xbef3efb4}, {0x3f380000, 0xbef3efb0},
+};
+
+enum { EDGE_LOGARITHMS = sizeof edge_logarithms / sizeof edge_logarithms[0], NORMAL_EXPONENTS = 254 };
+
+static void logarithms(void)
+{
+    int rows = 0, edges = 0, whole = 0;
+    for (int i = 0; i < LOGARITHM_ROWS; i++)
+        rows += gives("ear_log2", ear_log2, logarithm_rows[i][0], logarithm_rows[i][1]);
+    for (int i = 0; i < EDGE_LOGARITHMS; i++)
+        edges += gives("ear_log2", ear_log2, edge_logarithms[i][0], edge_logarithms[i][1]);
+    for (int exponent = 1; exponent <= NORMAL_EXPONENTS; exponent++)
+        whole += gives("ear_log2", ear_log2, (uint32_t)exponent << 23, bits_of((float)(exponent - 127)));
+    group(rows == LOGARITHM_ROWS, "ear_log2: %d of %d values of document 01, section 8", rows, LOGARITHM_ROWS);
+    group(edges == EDGE_LOGARITHMS, "ear_log2: %d of %d logarithms next to 1, 1/2 and the cut", edges, EDGE_LOGARITHMS);
+    group(whole == NORMAL_EXPONENTS, "ear_log2: exact at %d of %d powers of two, +0 at 1", whole, NORMAL_EXPONENTS);
+}
+
+/* Bit patterns of x and of sin(pi x) and cos(pi x) where 2x is a whole number: document 01's 8388606.5, both
+ * zeros, quarters and halves of a turn in both directions, and the greatest floats, all of them even. */
+static const uint32_t whole_waves[][3] = {
+    {0x4afffffd, 0x3f800000, 0x00000000}, {0xcafffffd, 0xbf800000, 0x00000000}, {0x00000000, 0x00000000, 0x3f800000},
+    {0x80000000, 0x00000000, 0x3f800000}, {0x3f000000, 0x3f800000, 0x00000000}, {0xbf000000, 0xbf800000, 0x00000000},
+    {0x3f800000, 0x00000000, 0xbf800000}, {0xbf800000, 0x00000000, 0xbf800000}, {0x3fc00000, 0xbf800000, 0x00000000},
+    {0x40000000, 0x00000000, 0x3f800000}, {0x4b7fffff, 0x00000000, 0xbf800000}, {0x7f7fffff, 0x00000000, 0x3f800000},
+    {0xff7fffff, 0x00000000, 0x3f800000},
+};
+
+enum { WHOLE_WAVES = sizeof whole_waves / sizeof whole_waves[0] };
+
+static bool begins(const struct wave_row *row)
+{
+    float result = float_of(0x7fa5a5a5);
+    uint32_t code = row->call(float_of(row->x), &result);
+    return code == EAR_OK && fabs(result - row->digits) <= 17 * 0x1p-29;
+}
+
+static void waves(void)
+{
+    int rows = 0, whole = 0;
+    for (int i = 0; i < WAVE_ROWS; i++)
+        rows += begins(&wave_rows[i]);
+    for (int i = 0; i < WHOLE_WAVES; i++) {
+        whole += gives("ear_sinpi", ear_sinpi, whole_waves[i][0], whole_waves[i][1]);
+        whole += gives("ear_cospi", ear_cospi, whole_waves[i][0], whole_waves[i][2]);
+    }
+    group(rows == WAVE_ROWS, "sin and cos: %d of %d values of document 01, section 8, within 17 * 2^-29", rows, WAVE_ROWS);
+    group(whole == 2 * WHOLE_WAVES, "ear_sinpi, ear_cospi: %d of %d exact values where 2x is whole, +0 among them", whole,
+          2 * WHOLE_WAVES);
+}
+
+static void roots_of_section_8(void)
+{
+    int roots = 0, reciprocals = 0, exact = 0;
+    for (int i = 0; i < ROOT_ROWS; i++) {
+        const struct root_row *row = &root_rows[i];
+        roots += gives("ear_sqrt", ear_sqrt, row->x, row->root);
+        reciprocals += gives("ear_rsqrt", ear_rsqrt, row->x, row->reciprocal);
+    }
+    for (int i = 0; i < EXACT_ROOTS; i++)
+        exact += gives("ear_sqrt", ear_sqrt, exact_roots[i][0], exact_roots[i][1]);
+    group(roots == ROOT_ROWS, "ear_sqrt: %d of %d values of document 01, section 8", roots, ROOT_ROWS);
+    group(reciprocals == ROOT_ROWS, "ear_rsqrt: %d of %d values of document 01, section 8", reciprocals, ROOT_ROWS);
+    group(exact == EXACT_ROOTS, "ear_sqrt: %d of %d exact roots, of +0 and -0 among them", exact, EXACT_ROOTS);
+}
+
+/* Section 5's digits, and section 9's three equal inputs. */
+static void softmax(void)
+{
+    static const float inputs[4] = {0, 1, 2, -3.5f}, equal[3] = {7, 7, 7};
+    static const double digits[4] = {0.141075791979, 0.282151583958, 0.564303167916, 0.0124694561462};
+    float p[4] = {0}, q[3] = {0};
+    int near = 0, thirds = 0;
+    uint32_t code = ear_softmax2(inputs, 4, p, 4), code_of_equal = ear_softmax2(equal, 3, q, 3);
+    for (int i = 0; i < 4; i++)
+        near += code == EAR_OK && fabs(p[i] - digits[i]) <= 273 * 0x1p-32 * digits[i] + 1e-12;
+    for (int i = 0; i < 3; i++)
+        thirds += code_of_equal == EAR_OK && bits_of(q[i]) == 0x3eaaaaab;
+    group(near == 4, "ear_softmax2: %d of 4 values of document 01, section 5, within 273 * 2^-32", near);
+    group(thirds == 3, "ear_softmax2: %d of 3 equal inputs get the float next to a third", thirds);
+}
+
+int main(void)
+{
+    roots_of_section_8();
+    powers();
+    logarithms();
+    waves();
+    softmax();
+    return verdict();
+}
