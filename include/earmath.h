@@ -192,6 +192,33 @@ uint32_t ear_softmax2_in_place(float *p, uint64_t n);
  */
 uint32_t ear_loudness(float b, float m, uint32_t t, uint32_t c, float a, uint32_t *out);
 
+/*
+ * The loudness map of a stimulator with the steps 0 to top.
+ *
+ * Accepts: what ear_loudness accepts, with t <= c <= top <= 1023 in place of
+ *          t <= c <= 255. ear_loudness is the case top = 255.
+ * Result:  as of ear_loudness; at most 0.500004 away from exact(a), and 0.500001
+ *          where top is at most 255.
+ * Order:   never falls as a grows.
+ * Refuses: as ear_loudness; top > 1023 and c > top with EAR_BAD_CHANNEL.
+ */
+uint32_t ear_loudness_top(uint32_t top, float b, float m, uint32_t t, uint32_t c, float a, uint32_t *out);
+
+/*
+ * The loudness map with a knee: from b to k the current goes from step t to step
+ * kk, from k to m from kk to c, each straight in the logarithm of a.
+ *
+ * Accepts: 2^-24 <= b, 2 b <= k, 2 k <= m <= 1 and t <= kk <= c <= top <= 1023, as
+ *          exact numbers, and every envelope value a from 0 to 1.
+ * Result:  a step that is t where a <= b, kk at k and c where a >= m, from t to kk up
+ *          to k and from kk to c from there on; on either side as near to the exact
+ *          bent map as ear_loudness_top is to the straight one.
+ * Order:   never falls as a grows, across the knee too.
+ * Refuses: as ear_loudness.
+ */
+uint32_t ear_loudness_knee(uint32_t top, float b, float k, float m, uint32_t t, uint32_t kk, uint32_t c, float a,
+                           uint32_t *out);
+
 #ifdef __cplusplus
 }
 #endif

@@ -5,6 +5,7 @@ ghost use Rattle.units.specs.Answers.{Ends, floatBits, listBits, itself};
 ghost use Rattle.roots.specs.Sqrt.{Sqrt};
 ghost use Rattle.roots.specs.Rsqrt.{Rsqrt};
 ghost use Rattle.loudness.specs.Map.{Loudness};
+ghost use Rattle.loudness.specs.Knee.{LoudnessKnee};
 ghost use Rattle.powers.specs.Exp2.{Exp2};
 ghost use Rattle.logs.specs.Log2.{Log2};
 ghost use Rattle.circle.specs.Promise.{SinPi, CosPi, Sin, Cos};
@@ -95,7 +96,7 @@ pub extern "C" fn ear_softmax2(x: &[f32], p: &mut [u32]) -> u32
 // The loudness map of an envelope value a in the channel b, m, t, c: a step within 0.500001 of the exact map, or code 4 or 1 and nothing written.
 #[no_mangle]
 pub extern "C" fn ear_loudness(b: f32, m: f32, t: u32, c: u32, a: f32, out: &mut u32) -> u32
-    ensures { λ code. ⌜ Ends itself (Loudness b m t c a) code (now (out .entry)) (now (out .exit)) ⌝ }
+    ensures { λ code. ⌜ Ends itself (Loudness 255 b m t c a) code (now (out .entry)) (now (out .exit)) ⌝ }
 {
     loudness::loudness(b, m, t, c, a, out)
 }
@@ -107,4 +108,38 @@ pub extern "C" fn ear_softmax2_in_place(p: &mut [u32]) -> u32
     ensures { λ code. ⌜ Ends listBits (Softmax2 (floatsOf (now (p .entry))) (length (now (p .entry)))) code (now (p .entry)) (now (p .exit)) ⌝ }
 {
     weights::softmax2_in_place(p)
+}
+
+// The loudness map of a stimulator with the steps 0 to top, at most 1,023: a step within 0.500004 of the exact map, 0.500001 where top is at most 255.
+#[no_mangle]
+pub extern "C" fn ear_loudness_top(
+    top: u32,
+    b: f32,
+    m: f32,
+    t: u32,
+    c: u32,
+    a: f32,
+    out: &mut u32,
+) -> u32
+    ensures { λ code. ⌜ Ends itself (Loudness top b m t c a) code (now (out .entry)) (now (out .exit)) ⌝ }
+{
+    loudness::loudness_top(top, b, m, t, c, a, out)
+}
+
+// The map with a knee: straight from b to k with the steps t to kk, and from k to m with the steps kk to c.
+#[no_mangle]
+pub extern "C" fn ear_loudness_knee(
+    top: u32,
+    b: f32,
+    k: f32,
+    m: f32,
+    t: u32,
+    kk: u32,
+    c: u32,
+    a: f32,
+    out: &mut u32,
+) -> u32
+    ensures { λ code. ⌜ Ends itself (LoudnessKnee top b k m t kk c a) code (now (out .entry)) (now (out .exit)) ⌝ }
+{
+    loudness::knee::loudness_knee(top, b, k, m, t, kk, c, a, out)
 }

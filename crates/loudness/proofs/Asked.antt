@@ -1,5 +1,7 @@
--- A smaller constant gives a larger one: what document 01 asks, 0.55 of a step, follows from what is proved. Assumes nothing.
+-- A smaller constant gives a larger one: what is asked, 0.55 of a step and 0.6, follows from what is proved. Assumes nothing.
 use mathlib.Core.Path.{_≡_, sym, subst, subst₂}
+use mathlib.Core.Bool.{Bool, true, false, cond}
+use lib.Dec.{leb}
 use Prim.Native.Nat.{ℕ, _+_, _-_, _*_, _^_, _≤_, _<_}
 use native.Mathlib.Nat.{le-trans, le-of-eq, lt-of-lt-of-le, mul-assoc, mul-le-mul, mul-le-mul-left, le-of-mul-le-mul-right, one-le-pow, pow-le-pow-left}
 use native.Mathlib.Omega.{arith}
@@ -59,13 +61,29 @@ module _ (a b m k s num den num′ den′ : ℕ) (bm : b ≤ m) (pd : 0 < den) (
       (subst (λ (x : ℕ). b ^ x * m ^ J′ ≤ a ^ x * b ^ J′) same-steps
       (less a b m (den * k * den′) J′ (J - J′) bm pm (subst (λ (y : ℕ). RatioAtLeast a b m (den * k * den′) y) rest (raised b m a b (den * k) (den * s - num) den′ h))))
 
--- document 01's bound, 0.55 of a step, follows from the promise
-pub as-asked : (b m : Float) (t c : ℕ) (a : Float) (i : ℕ) → Levels b m → NearMap mapErrorNum mapErrorDen b m t c a i → NearMap 11 20 b m t c a i
-as-asked b m t c a i h w =
+-- so a promise with one constant gives that with a larger one
+weaker : {num den num′ den′ : ℕ} {b m : Float} {t c : ℕ} {a : Float} {i : ℕ} → 0 < den → num * den′ ≤ num′ * den → Levels b m → NearMap num den b m t c a i → NearMap num′ den′ b m t c a i
+weaker {num} {den} {num′} {den′} {b} {m} {t} {c} {a} {i} pd le h w =
     let o = h .octave in
     let bm : P b ≤ P m = omega arith in
     let pm : 0 < P m = lt-of-lt-of-le (lt-of-lt-of-le (pow-pos 125) (h .quietest)) bm in
     record {
-      not-below = below (P a) (P b) (P m) (c - t) (i - t) mapErrorNum mapErrorDen 11 20 bm (omega arith) (omega arith) (w .not-below);
-      not-above = above (P a) (P b) (P m) (c - t) (i - t) mapErrorNum mapErrorDen 11 20 bm (omega arith) (omega arith) pm (w .not-above);
+      not-below = below (P a) (P b) (P m) (c - t) (i - t) num den num′ den′ bm pd le (w .not-below);
+      not-above = above (P a) (P b) (P m) (c - t) (i - t) num den num′ den′ bm pd le pm (w .not-above);
     }
+
+-- the constant of every top is at most that of 1,023
+largest : (top : ℕ) → mapErrorNum top ≤ 500004
+largest top = go (leb top 255)
+  where
+    go : (t : Bool) → cond t 500001 500004 ≤ 500004
+    go true = omega arith
+    go false = omega arith
+
+-- document 01's bound, 0.55 of a step, follows from the promise, and that of change request Q6, 0.6
+module _ (top : ℕ) {b m : Float} {t c : ℕ} {a : Float} {i : ℕ} (h : Levels b m) (w : NearMap (mapErrorNum top) mapErrorDen b m t c a i) where
+  pub as-asked : NearMap 11 20 b m t c a i
+  as-asked = let l = largest top in weaker (omega arith) (omega arith) h w
+
+  pub as-asked-longer : NearMap 3 5 b m t c a i
+  as-asked-longer = let l = largest top in weaker (omega arith) (omega arith) h w

@@ -1,4 +1,4 @@
--- The growth function of a segment, from what is known of levels and of the slope. Assumes nothing.
+-- The growth function of a segment, from what is known of levels and of their words. Assumes nothing.
 use mathlib.Core.Path.{_≡_, sym, subst}
 use mathlib.Core.Logic.{_⊎_, inl, inr}
 use Prim.Native.Nat.{ℕ, _+_, _-_, _*_, _^_, _≤_, _<_}
@@ -10,11 +10,12 @@ use Rattle.units.specs.Units.{Number, P}
 use Rattle.units.proofs.Naturals.{le-or-lt}
 use Rattle.logs.specs.Fixed.{fixedOf}
 use Rattle.loudness.specs.Map.{NearMap}
-use Rattle.loudness.specs.Value.{riseOf, placesOf, slopeOf, shiftOf, stepsAbove, stepOf}
-use Rattle.loudness.specs.Fitted.{Segment}
-use Rattle.loudness.proofs.Steps.{Slopes, Rounds, Allows, step-most, not-below, not-above}
-use Rattle.loudness.proofs.Slopes.{slope-of, shift-range, rounds, step-mono}
-use Rattle.loudness.proofs.Known.{parts, shift, width, Sound, low-sound, high-sound, encloses, rises, encloses-sum, rise-word, rise-octave}
+use Rattle.loudness.specs.Value.{riseOf, stepsOf, stepOf}
+use Rattle.loudness.specs.Fitted.{Segment, Fits}
+use Rattle.loudness.specs.declared.Fitted.{Fitted}
+use Rattle.loudness.proofs.Steps.{Rounded, Allows, not-below, not-above}
+use Rattle.loudness.proofs.Words.{steps-rounded, steps-mono}
+use Rattle.loudness.proofs.Known.{parts, shift, width, Sound, low-sound, high-sound, encloses, rises, encloses-sum, rise-few, rise-octave}
 
 -- the three cases of the map
 module _ (b m : Float) (t c : ℕ) (a : Float) where
@@ -26,9 +27,13 @@ module _ (b m : Float) (t c : ℕ) (a : Float) where
   unfolding stepOf
   step-loud h k = rw (lt-leb (P a) (P b) h, le-leb (P m) (P a) k)
 
-  pub step-between : P b < P a → P a < P m → stepOf b m t c a ≡ t + stepsAbove b m a (c - t)
+  pub step-between : P b < P a → P a < P m → stepOf b m t c a ≡ t + stepsOf (c - t) (riseOf b a) (riseOf b m)
   unfolding stepOf
   step-between h k = rw (lt-leb (P a) (P b) h, lt-leb (P m) (P a) k)
+
+-- of a fitted segment they are the segment's
+pub same-step : {b m : Float} {t c : ℕ} (f : Fitted) (a : Float) → Fits b m t c f → stepOf (f .b) (f .m) (f .t) (f .c) a ≡ stepOf b m t c a
+same-step f a h = rw (h .same-b, h .same-m, h .same-t, h .same-c)
 
 module _ (b m : Float) (t c : ℕ) (sg : Segment b m t c) where
   abbrev k : ℕ
@@ -51,15 +56,15 @@ module _ (b m : Float) (t c : ℕ) (sg : Segment b m t c) where
   pub between-sound : (a : Float) → Number a → P b ≤ P a → P a ≤ P m → Sound a
   between-sound a h l r = record { number = h; quietest = le-trans (sg .levels .quietest) l; loudest = le-trans r (sg .levels .loudest) }
 
-  -- the span of the segment is an octave or more, but for the errors, and a word
+  -- the span of the segment is an octave or more, but for the errors, and has 59 digits
   pub span-octave : parts ≤ d + width
   span-octave = rise-octave low high b≤m (sg .levels .octave)
 
-  pub span-long : 2 ^ 58 ≤ d
+  pub span-long : 2 ^ 53 ≤ d
   span-long = let s = span-octave in omega arith
 
-  pub span-word : d < 2 ^ 64
-  span-word = rise-word low high b≤m
+  pub span-few : d < 2 ^ 59
+  span-few = rise-few low high b≤m
 
   pub few : k ≤ 1023
   few = let f = sg .few in omega arith
@@ -69,20 +74,10 @@ module _ (b m : Float) (t c : ℕ) (sg : Segment b m t c) where
   unfolding riseOf
   rise-most a s r = let l = rises s high r in omega arith
 
-  slope : Slopes k d (slopeOf k d) (2 ^ shiftOf k d * 18446744073709551616) (2 ^ placesOf k)
-  slope = slope-of k d few span-long span-word
-
-  rounded : (a : Float) → Rounds (riseOf b a) (slopeOf k d) (2 ^ shiftOf k d * 18446744073709551616) (stepsAbove b m a k)
-  unfolding stepsAbove
-  rounded a = rounds (slopeOf k d) (shiftOf k d) (shift-range k d few span-long span-word .0) (riseOf b a)
-
-  d-pos : 0 < d
-  d-pos = let s = span-long in omega arith
+  near : (a : Float) → Sound a → P a ≤ P m → Rounded k (riseOf b a) d 1073741824 (stepsOf k (riseOf b a) d)
+  near a s r = steps-rounded d span-long span-few (riseOf b a) (rise-most a s r) k
 
   -- ---- between threshold and comfort
-  pub above-most : (a : Float) → Sound a → P a ≤ P m → stepsAbove b m a k ≤ k
-  above-most a s r = step-most (riseOf b a) d k _ _ _ _ slope (rounded a) d-pos (rise-most a s r)
-
   pub inside : (a : Float) → Number a → (t ≤ stepOf b m t c a) × (stepOf b m t c a ≤ c)
   inside a h = go (le-or-lt (P a) (P b)) (le-or-lt (P m) (P a))
     where
@@ -93,14 +88,14 @@ module _ (b m : Float) (t c : ℕ) (sg : Segment b m t c) where
       go (inl l) r = subst Inside (sym (step-quiet b m t c a l)) (le-refl t, sg .order)
       go (inr l) (inl r) = subst Inside (sym (step-loud b m t c a l r)) (sg .order, le-refl c)
       go (inr l) (inr r) =
-          let i = above-most a (between-sound a h (le-of-lt l) (le-of-lt r)) (le-of-lt r) in
+          let i = near a (between-sound a h (le-of-lt l) (le-of-lt r)) (le-of-lt r) .most in
           let o = sg .order in
           subst Inside (sym (step-between b m t c a l r)) (omega arith, omega arith)
 
   -- ---- a louder sound never gets a smaller step
-  above-mono : (a a′ : Float) → Sound a → Sound a′ → P a′ ≤ P a → stepsAbove b m a′ k ≤ stepsAbove b m a k
-  unfolding stepsAbove riseOf
-  above-mono a a′ s s′ less = let l = rises s′ s less in step-mono (slopeOf k d) (shiftOf k d) (shift-range k d few span-long span-word .0) (riseOf b a′) (riseOf b a) (omega arith)
+  steps-rise : (a a′ : Float) → Sound a → Sound a′ → P a′ ≤ P a → stepsOf k (riseOf b a′) d ≤ stepsOf k (riseOf b a) d
+  unfolding riseOf
+  steps-rise a a′ s s′ less = let l = rises s′ s less in steps-mono d span-long span-few (riseOf b a′) (riseOf b a) k (omega arith)
 
   pub never-falls : (a a′ : Float) → Number a → Number a′ → P a′ ≤ P a → stepOf b m t c a′ ≤ stepOf b m t c a
   never-falls a a′ h h′ less = go (le-or-lt (P m) (P a)) (le-or-lt (P a′) (P b))
@@ -111,19 +106,20 @@ module _ (b m : Float) (t c : ℕ) (sg : Segment b m t c) where
       go (inr r) (inr l) =
           let s = between-sound a h (le-trans (le-of-lt l) less) (le-of-lt r) in
           let s′ = between-sound a′ h′ (le-of-lt l) (le-trans less (le-of-lt r)) in
-          let up = above-mono a a′ s s′ less in
+          let up = steps-rise a a′ s s′ less in
           rw (step-between b m t c a′ l (lt-of-le-of-lt less r), step-between b m t c a (lt-of-lt-of-le l less) r) (omega arith)
 
   -- ---- within the constant of the exact map
-  pub within : (num den : ℕ) → Allows num den width k d (2 ^ placesOf k) → (a : Float) → Number a → P b < P a → P a < P m → NearMap num den b m t c a (stepOf b m t c a)
+  pub within : (num den : ℕ) → Allows num den width k d 1073741824 → (a : Float) → Number a → P b < P a → P a < P m → NearMap num den b m t c a (stepOf b m t c a)
   within num den al a h l r =
       let s = between-sound a h (le-of-lt l) (le-of-lt r) in
-      let i = stepsAbove b m a k in
+      let n = riseOf b a in
+      let i = stepsOf k n d in
       let steps : stepOf b m t c a - t ≡ i = let e = step-between b m t c a l r in omega arith in
+      let ro = near a s (le-of-lt r) in
       let A = encloses-sum low s (le-of-lt l) in
       let M = encloses-sum low high b≤m in
-      let nd = rise-most a s (le-of-lt r) in
       record {
-        not-below = rw steps (not-below (P a) (P b) (P m) (2 ^ 22) (fixedOf b * 32) (riseOf b a) d width shift parts k _ _ _ i num den d-pos nd slope (rounded a) al A (encloses low) M);
-        not-above = rw steps (not-above (P a) (P b) (P m) (2 ^ 22) (fixedOf b * 32) (riseOf b a) d width shift parts k _ _ _ i num den d-pos nd slope (rounded a) al A (encloses low) M (le-of-lt l));
+        not-below = rw steps (not-below (P a) (P b) (P m) (2 ^ 22) (fixedOf b) n d width shift parts k 1073741824 i num den ro al A (encloses low) M);
+        not-above = rw steps (not-above (P a) (P b) (P m) (2 ^ 22) (fixedOf b) n d width shift parts k 1073741824 i num den ro al A (encloses low) M (le-of-lt l));
       }

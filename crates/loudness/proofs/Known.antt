@@ -1,4 +1,4 @@
--- What is known of levels, from the logarithm in fixed point: 3 / 2 ^ 32 off, in steps of 2 ^ -59. Assumes nothing.
+-- What is known of levels, from the logarithm in fixed point: 3 / 2 ^ 32 off, in steps of 2 ^ -54. Assumes nothing.
 use mathlib.Core.Path.{_≡_, sym, ap, subst}
 use mathlib.Core.Logic.{inl, inr}
 use Prim.Native.Nat.{ℕ, _+_, _-_, _*_, _^_, _≤_, _<_}
@@ -8,7 +8,7 @@ use lib.Dec.{lit<, lit≤}
 use lib.Pow.{pow-pos, pow-mono}
 use lib.Ieee.{Float}
 use Rattle.exact.specs.Power.{AtMost, AtLeast}
-use Rattle.exact.proofs.Power.{most-of-larger, least-of-smaller}
+use Rattle.exact.proofs.Power.{most-of-larger}
 use Rattle.units.specs.Units.{Number, mag, P, N}
 use Rattle.units.proofs.Signs.{one-sided, size-sum}
 use Rattle.logs.specs.Fixed.{Accepts, fixedOf, fixedError}
@@ -18,13 +18,13 @@ use Rattle.loudness.specs.Value.{riseOf}
 use Rattle.loudness.proofs.Steps.{Enclosed, span-least, span-most}
 
 abbrev pub parts : ℕ
-parts = 2 ^ 59
+parts = 2 ^ 54
 
 abbrev pub shift : ℕ
-shift = 3 * 2 ^ 27
+shift = fixedError
 
 abbrev pub width : ℕ
-width = 3 * 2 ^ 28
+width = 2 * fixedError
 
 -- a float that has a level: from 2 ^ -24 to 1
 pub record Sound (x : Float) : Type 0 where
@@ -59,14 +59,11 @@ module _ {x : Float} (s : Sound x) where
   }
 
   -- the level lies within the width of the logarithm
-  pub encloses : Enclosed (P x) (2 ^ 22) (fixedOf x * 32) width shift parts
+  pub encloses : Enclosed (P x) (2 ^ 22) (fixedOf x) width shift parts
   encloses = rw size (enclosed (mag x) (fixedOf x) (fixed-least x accepted) (fixed-most x accepted))
     where
-      enclosed : (A W : ℕ) → AtLeast A (2 ^ 22) W fixedError (2 ^ 54) → AtMost A (2 ^ 22) (W + fixedError) 0 (2 ^ 54) → Enclosed A (2 ^ 22) (W * 32) width shift parts
-      enclosed A W l m = record {
-        at-most = most-of-larger (pow-pos 59) (omega arith) m;
-        at-least = least-of-smaller (pow-pos 59) (omega arith) l;
-      }
+      enclosed : (A W : ℕ) → AtLeast A (2 ^ 22) W fixedError (2 ^ 54) → AtMost A (2 ^ 22) (W + fixedError) 0 (2 ^ 54) → Enclosed A (2 ^ 22) W width shift parts
+      enclosed A W l m = record { at-most = most-of-larger (pow-pos 54) (omega arith) m; at-least = l }
 
 -- ---- of two sounds
 module _ {x y : Float} (s : Sound x) (s′ : Sound y) (less : P x ≤ P y) where
@@ -78,20 +75,20 @@ module _ {x y : Float} (s : Sound x) (s′ : Sound y) (less : P x ≤ P y) where
       in-order p n p′ n′ z z′ h = omega arith
 
   -- its level is the other's and the rise
-  pub level-sum : fixedOf y * 32 ≡ fixedOf x * 32 + riseOf x y
+  pub level-sum : fixedOf y ≡ fixedOf x + riseOf x y
   unfolding riseOf
   level-sum = let l = rises in omega arith
 
-  pub encloses-sum : Enclosed (P y) (2 ^ 22) (fixedOf x * 32 + riseOf x y) width shift parts
+  pub encloses-sum : Enclosed (P y) (2 ^ 22) (fixedOf x + riseOf x y) width shift parts
   encloses-sum = rw level-sum at (encloses s′)
 
-  -- a rise is a word
-  pub rise-word : riseOf x y < 2 ^ 64
-  rise-word = few (riseOf x y) (span-most (P x) (P y) (2 ^ 22) (fixedOf x * 32) (riseOf x y) width shift parts (encloses s) encloses-sum (le-trans (s′ .loudest) (mul-le-mul-right (2 ^ 24) (s .quietest))))
+  -- a rise has 59 digits
+  pub rise-few : riseOf x y < 2 ^ 59
+  rise-few = few (riseOf x y) (span-most (P x) (P y) (2 ^ 22) (fixedOf x) (riseOf x y) width shift parts (encloses s) encloses-sum (le-trans (s′ .loudest) (mul-le-mul-right (2 ^ 24) (s .quietest))))
     where
-      few : (d : ℕ) → d ≤ 24 * parts + width → d < 2 ^ 64
+      few : (d : ℕ) → d ≤ 24 * parts + width → d < 2 ^ 59
       few d h = omega arith
 
   -- and of an octave or more no less than that, but for the errors
   pub rise-octave : 2 * P x ≤ P y → parts ≤ riseOf x y + width
-  rise-octave = span-least (P x) (P y) (2 ^ 22) (fixedOf x * 32) (riseOf x y) width shift parts (encloses s) encloses-sum
+  rise-octave = span-least (P x) (P y) (2 ^ 22) (fixedOf x) (riseOf x y) width shift parts (encloses s) encloses-sum

@@ -1,9 +1,9 @@
--- The map on whole numbers: a rise times a slope, rounded to the nearest whole number, and what bounds on three logarithms then say of the exact map.
--- The number of steps k is any number: the constant num / den says how many the errors of logarithm and slope allow. Assumes nothing.
+-- The map on whole numbers: a quotient to the nearest whole number, and what bounds on three logarithms then say of the exact map.
+-- The number of steps k is any number: the constant num / den says how many the errors allow. Assumes nothing.
 use mathlib.Core.Path.{_≡_, ap}
 use mathlib.Core.Logic.{_⊎_, inl, inr}
 use Prim.Native.Nat.{ℕ, _+_, _-_, _*_, _^_, _≤_, _<_}
-use native.Mathlib.Nat.{le-trans, le-of-eq, mul-le-mul-left, mul-le-mul-right, le-of-mul-le-mul-right, lt-of-lt-of-le, not-le-of-lt, pow-zero, pow-le-pow-left}
+use native.Mathlib.Nat.{mul-le-mul-left, mul-le-mul-right, le-of-mul-le-mul-right, pow-zero, pow-le-pow-left}
 use native.Mathlib.Omega.{arith}
 use Rattle.exact.specs.Power.{AtMost, AtLeast}
 use Rattle.exact.proofs.Power.{most-of-less, least-of-more, most-shift, least-shift}
@@ -11,68 +11,42 @@ use Rattle.exact.proofs.Ratio.{products, exponents-over}
 use Rattle.units.proofs.Naturals.{le-or-lt}
 use Rattle.loudness.specs.Map.{RatioAtMost, RatioAtLeast}
 
--- r / U is the slope of k steps over a rise of d: never too large, and over the whole rise at most two parts in Y of a step too small
-pub record Slopes (k d r U Y : ℕ) : Type 0 where
-  pub scale : 0 < U
+-- i is the whole number nearest to k n / d, but for k parts in 2 Y
+pub record Rounded (k n d Y i : ℕ) : Type 0 where
   pub parts : 0 < Y
-  pub below : d * r ≤ k * U
-  pub above : k * U * Y ≤ d * r * Y + 2 * U
-
--- i is the whole number nearest to n r / U
-pub record Rounds (n r U i : ℕ) : Type 0 where
-  pub floor : 2 * U * i ≤ 2 * n * r + U
-  pub ceiling : 2 * n * r ≤ 2 * U * i + U
-
-module _ (n d k r U Y i : ℕ) (sl : Slopes k d r U Y) (ro : Rounds n r U i) where
-  step-floor : 2 * d * i ≤ 2 * n * k + d
-  step-floor = le-of-mul-le-mul-right (omega (arith, mul-le-mul-left d (ro .floor), mul-le-mul-left (2 * n) (sl .below))) (sl .scale)
-
-  step-ceiling : n ≤ d → 2 * n * k * Y ≤ 2 * d * i * Y + d * Y + 4 * d
-  step-ceiling nd =
-      le-of-mul-le-mul-right (omega (arith, mul-le-mul-left (2 * n) (sl .above), mul-le-mul-left (d * Y) (ro .ceiling), mul-le-mul-right (4 * U) nd)) (sl .scale)
-
-  -- no more than all steps
-  pub step-most : 0 < d → n ≤ d → i ≤ k
-  step-most pd nd = elim (le-or-lt i k) [
-    | inl h ↦ h
-    | inr h ↦
-        let f = step-floor in
-        let a : n * k ≤ d * k = mul-le-mul-right k nd in
-        let b : d * (k + 1) ≤ d * i = mul-le-mul-left d (omega arith) in
-        absurd (omega arith)
-  ]
+  pub floor : 2 * d * i * Y ≤ 2 * n * k * Y + d * Y + k * d
+  pub ceiling : 2 * n * k * Y ≤ 2 * d * i * Y + d * Y + k * d
+  pub most : i ≤ k
 
 -- the logarithm of A / unit, shifted by m and in parts of q, lies between L and L + w
 pub record Enclosed (A unit L w m q : ℕ) : Type 0 where
   pub at-most : AtMost A unit (L + w) m q
   pub at-least : AtLeast A unit L m q
 
--- what the constant has to allow: the errors of all logarithms and of the slope, over all steps, against the span d of the channel
+-- what the constant has to allow: the errors of all logarithms and of the rises' words, over all steps, against the span d of the channel
 abbrev pub Allows : ℕ → ℕ → ℕ → ℕ → ℕ → ℕ → Type 0
-Allows num den w k d Y = 4 * (w * (den * k)) * Y + 2 * (w * num) * Y + den * d * Y + 4 * (den * d) ≤ 2 * (num * d) * Y
+Allows num den w k d Y = 4 * (w * (den * k)) * Y + 2 * (w * num) * Y + den * d * Y + den * (k * d) ≤ 2 * (num * d) * Y
 
 -- the two orders of exponents that the ratios come to, K = den k, J = den i ± num
-upper : (n d w k i num den Y : ℕ) → 0 < Y → i ≤ k → 2 * n * k * Y ≤ 2 * d * i * Y + d * Y + 4 * d → Allows num den w k d Y → (n + w) * (den * k) + w * (den * i + num) ≤ d * (den * i + num)
+upper : (n d w k i num den Y : ℕ) → 0 < Y → i ≤ k → 2 * n * k * Y ≤ 2 * d * i * Y + d * Y + k * d → Allows num den w k d Y → (n + w) * (den * k) + w * (den * i + num) ≤ d * (den * i + num)
 upper n d w k i num den Y py ik c al =
-    let a : den * (2 * n * k * Y) ≤ den * (2 * d * i * Y + d * Y + 4 * d) = mul-le-mul-left den c in
+    let a : den * (2 * n * k * Y) ≤ den * (2 * d * i * Y + d * Y + k * d) = mul-le-mul-left den c in
     let b : w * (den * i) * Y ≤ w * (den * k) * Y = mul-le-mul-right Y (mul-le-mul-left w (mul-le-mul-left den ik)) in
     le-of-mul-le-mul-right {k = 2 * Y} (omega arith) (omega arith)
 
-lower : (n d w k i num den Y J : ℕ) → 0 < Y → i ≤ k → 2 * d * i ≤ 2 * n * k + d → den * i ≡ J + num → Allows num den w k d Y → (d + w) * J + w * (den * k) ≤ n * (den * k)
-lower n d w k i num den Y J py ik c e al =
-    let a : den * (2 * d * i) * Y ≤ den * (2 * n * k + d) * Y = mul-le-mul-right Y (mul-le-mul-left den c) in
+lower : (n d w k i num den Y : ℕ) → 0 < Y → i ≤ k → 2 * d * i * Y ≤ 2 * n * k * Y + d * Y + k * d → Allows num den w k d Y → (d + w) * (den * i) + w * (den * k) ≤ n * (den * k) + (d + w) * num
+lower n d w k i num den Y py ik c al =
+    let a : den * (2 * d * i * Y) ≤ den * (2 * n * k * Y + d * Y + k * d) = mul-le-mul-left den c in
     let b : w * (den * i) * Y ≤ w * (den * k) * Y = mul-le-mul-right Y (mul-le-mul-left w (mul-le-mul-left den ik)) in
-    let f : d * (den * i) * Y ≡ d * (J + num) * Y = ap (λ (z : ℕ). d * z * Y) e in
-    let g : w * (den * i) * Y ≡ w * (J + num) * Y = ap (λ (z : ℕ). w * z * Y) e in
     le-of-mul-le-mul-right {k = 2 * Y} (omega arith) (omega arith)
 
 -- the step is within num / den of the exact map
-module _ (A B M unit Lb n d w m q k r U Y i num den : ℕ) (pd : 0 < d) (nd : n ≤ d) (sl : Slopes k d r U Y) (ro : Rounds n r U i) (al : Allows num den w k d Y)
+module _ (A B M unit Lb n d w m q k Y i num den : ℕ) (ro : Rounded k n d Y i) (al : Allows num den w k d Y)
     (ea : Enclosed A unit (Lb + n) w m q) (eb : Enclosed B unit Lb w m q) (em : Enclosed M unit (Lb + d) w m q) where
   pub not-below : RatioAtMost A B M (den * k) (den * i + num)
   not-below =
       products (den * k) (den * i + num) (ea .at-most) (eb .at-most) (eb .at-least) (em .at-least)
-      (sums Lb n d w (den * k) (den * i + num) (upper n d w k i num den Y (sl .parts) (step-most n d k r U Y i sl ro pd nd) (step-ceiling n d k r U Y i sl ro nd) al))
+      (sums Lb n d w (den * k) (den * i + num) (upper n d w k i num den Y (ro .parts) (ro .most) (ro .ceiling) al))
     where
       sums : (L n d w K J : ℕ) → (n + w) * K + w * J ≤ d * J → (L + n + w) * K + (L + w) * J ≤ L * K + (L + d) * J
       sums L n d w K J h = omega arith
@@ -83,10 +57,13 @@ module _ (A B M unit Lb n d w m q k r U Y i num den : ℕ) (pd : 0 < d) (nd : n 
       sums : (L n d w K J : ℕ) → (d + w) * J + w * K ≤ n * K → (L + w) * K + (L + d + w) * J ≤ (L + n) * K + L * J
       sums L n d w K J h = omega arith
 
+      less : (d w x y I J : ℕ) → I ≡ J + num → (d + w) * I + y ≤ x + (d + w) * num → (d + w) * J + y ≤ x
+      less d w x y I J e h = let g : (d + w) * (J + num) + y ≤ x + (d + w) * num = rw e at h in omega arith
+
       go : (num ≤ den * i) ⊎ (den * i < num) → RatioAtLeast A B M (den * k) (den * i - num)
       go (inl h) =
           products (den * k) (den * i - num) (eb .at-most) (em .at-most) (ea .at-least) (eb .at-least)
-          (sums Lb n d w (den * k) (den * i - num) (lower n d w k i num den Y (den * i - num) (sl .parts) (step-most n d k r U Y i sl ro pd nd) (step-floor n d k r U Y i sl ro) (omega arith) al))
+          (sums Lb n d w (den * k) (den * i - num) (less d w (n * (den * k)) (w * (den * k)) (den * i) (den * i - num) (omega arith) (lower n d w k i num den Y (ro .parts) (ro .most) (ro .floor) al)))
       go (inr h) =
           let z : den * i - num ≡ 0 = omega arith in
           rw (z, pow-zero M, pow-zero B) (mul-le-mul-right 1 (pow-le-pow-left ba (den * k)))

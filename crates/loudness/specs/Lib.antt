@@ -1,3 +1,4 @@
 pub mod Value
 pub mod Map
+pub mod Knee
 pub mod Fitted

@@ -7,30 +7,30 @@ use lib.Ieee.{Float}
 use Rattle.logs.specs.Fixed.{fixedOf}
 use Rattle.units.specs.Units.{P}
 
--- how far the logarithm of a is above that of b, in steps of 2 ^ -59
+-- how far the logarithm of a is above that of b, in steps of 2 ^ -54
 unfoldable pub riseOf : Float → Float → ℕ
-riseOf b a = (fixedOf a - fixedOf b) * 32
+riseOf b a = fixedOf a - fixedOf b
 
--- by how many binary places k steps are shifted up, to 31 digits
+-- by how many places a rise d is shifted up to have 64 binary digits
 unfoldable pub placesOf : ℕ → ℕ
-placesOf k = leadingZeros 32 k - 1
+placesOf d = leadingZeros 32 (d / 4294967296)
 
--- the slope of k steps over a rise of d: their quotient, both shifted up, with 2 ^ 32 - 2 for 2 ^ 32 so that it is never too large
-unfoldable pub slopeOf : ℕ → ℕ → ℕ
-slopeOf k d = k * 2 ^ placesOf k * 4294967294 / (d * 2 ^ leadingZeros 64 d / 4294967296)
+-- the upper half of a rise n that is shifted up by s places
+unfoldable pub wordOf : ℕ → ℕ → ℕ
+wordOf s n = n * 2 ^ s / 4294967296
 
--- the binary places that a rise times the slope has too many, beside 64
-unfoldable pub shiftOf : ℕ → ℕ → ℕ
-shiftOf k d = placesOf k - leadingZeros 64 d
-
--- a rise n times the slope r, to the nearest whole number of steps
+-- k n / h, to the nearest whole number
 unfoldable pub nearestStep : ℕ → ℕ → ℕ → ℕ
-nearestStep n r s = (n * r / 18446744073709551616 + 2 ^ (s - 1)) / 2 ^ s
+nearestStep k n h = (k * n + h / 2) / h
 
--- the steps of a above b, of k steps from b to m
-unfoldable pub stepsAbove : (b m a : Float) → ℕ → ℕ
-stepsAbove b m a k = nearestStep (riseOf b a) (slopeOf k (riseOf b m)) (shiftOf k (riseOf b m))
+-- the steps of a rise n, of k steps over a rise of d
+unfoldable pub stepsOf : ℕ → ℕ → ℕ → ℕ
+stepsOf k n d = nearestStep k (wordOf (placesOf d) n) (wordOf (placesOf d) d)
 
 -- the step: threshold up to b, comfort from m on, and between them in proportion to the rise
 unfoldable pub stepOf : (b m : Float) (t c : ℕ) → Float → ℕ
-stepOf b m t c a = cond (leb (P a) (P b)) t (cond (leb (P m) (P a)) c (t + stepsAbove b m a (c - t)))
+stepOf b m t c a = cond (leb (P a) (P b)) t (cond (leb (P m) (P a)) c (t + stepsOf (c - t) (riseOf b a) (riseOf b m)))
+
+-- with a knee: one segment up to k, and another of the same kind from there on
+unfoldable pub kneeOf : (b k m : Float) (t s c : ℕ) → Float → ℕ
+kneeOf b k m t s c a = cond (leb (P a) (P k)) (stepOf b k t s a) (stepOf k m s c a)
