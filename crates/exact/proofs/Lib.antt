@@ -24,3 +24,5 @@ pub mod Shift
 pub mod Quarter
 pub mod Turns
 pub mod Zero
+pub mod Exponential
+pub mod Natural

@@ -1,0 +1,5 @@
+pub mod Difference
+pub mod Table
+pub mod Words
+pub mod Transform
+pub mod Floats
