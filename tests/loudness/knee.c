@@ -4,6 +4,7 @@
  * and what is refused, each condition alone.
  */
 #include <math.h>
+#include <stddef.h>
 
 #include "earmath.h"
 #include "judge.h"

@@ -4,6 +4,7 @@
  * what is refused.
  */
 #include <math.h>
+#include <stddef.h>
 
 #include "earmath.h"
 #include "exact_map.h"
