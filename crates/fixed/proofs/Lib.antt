@@ -4,4 +4,5 @@ pub mod Horner
 pub mod Alternating
 pub mod Rounding
 pub mod Either
+pub mod Chains
 pub mod Dividing

@@ -17,17 +17,18 @@ fn step(c: u32, p: u32, f: u32) -> u32
     c + ((p as u64) * (f as u64) / 4294967296) as u32
 }
 
-// 2 to the power f / 2^32 in units of 2^-32, seven steps, without the 1 before the point: the upper half of the last product.
+// 2 to the power f / 2^32 in units of 2^-32, without the 1 before the point: the odd and the even terms by two chains in the square, which need not
+// wait for each other, and one floor of both together.
 fn raise(f: u32) -> u32
     ensures { λ r. ⌜ r + 2 ^ 32 ≡ raised f ⌝ }
 {
-    let p6 = step(0x0009_6c36, 0x0001_6783, f);
-    let p5 = step(0x0057_f139, p6, f);
-    let p4 = step(0x0276_1501, p5, f);
-    let p3 = step(0x0e35_93ba, p4, f);
-    let p2 = step(0x3d7f_7a4b, p3, f);
-    let p1 = step(0xb172_1808, p2, f);
-    ((p1 as u64) * (f as u64) / 4294967296) as u32
+    let z = ((f as u64) * (f as u64) / 4294967296) as u32;
+    let o5 = step(0x0057_f139, 0x0001_6783, z);
+    let e4 = step(0x0276_1501, 0x0009_6c36, z);
+    let o3 = step(0x0e35_93ba, o5, z);
+    let e2 = step(0x3d7f_7a4b, e4, z);
+    let o1 = step(0xb172_1808, o3, z);
+    (((f as u64) * (o1 as u64) + (z as u64) * (e2 as u64)) / 4294967296) as u32
 }
 
 // The size with the pattern a as a whole number of 2^-32. From 2^-9 on that is exact, and one product of 32-bit words, where a chip of 32 bits has
