@@ -23,3 +23,5 @@ pub mod Shift
 pub mod Quarter
 pub mod Turns
 pub mod Zero
+pub mod Exponential
+pub mod Natural

@@ -2,3 +2,4 @@ pub mod Power
 pub mod Polynomial
 pub mod Series
 pub mod Circle
+pub mod Exponential
