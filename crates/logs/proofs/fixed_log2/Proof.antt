@@ -34,6 +34,9 @@ first c = product c (toBits binary32 (c .before .args .x)) (omega (arith, patter
 second : (c : tie.After-slope) → (toBits binary32 (c .before .args .x) + 4718592) / 8388608 * 8388608 * c .slope .result ≤ 2 ^ 63
 second c = product c ((toBits binary32 (c .before .args .x) + 4718592) / 8388608 * 8388608) (omega (arith, pattern c))
 
+cast-p : tie.Need-cast-p
+cast-p c = search needs
+
 add-k : tie.Need-add-k
 add-k c = omega (arith, pattern c)
 
@@ -72,6 +75,7 @@ fixed-log2-spec =
     (tie.spec
     float-to-bits-b
     slope-requires
+    cast-p
     add-k
     cast-k
     mul-result
