@@ -175,6 +175,26 @@ uint32_t ear_softmax2(const float *x, uint64_t nx, float *p, uint64_t np);
 uint32_t ear_softmax2_in_place(float *p, uint64_t n);
 
 /*
+ * The transform of 128 values: X_k = sum of x[n] e^(-2 pi i k n / 128), k = 0 to 64.
+ *
+ * Accepts: nx = 128 floats below 2^120 in size, subnormal ones and zeros too, with
+ *          nre = nim = 65 places for the real and the imaginary parts.
+ * Error:   each part is within 2^-24 of its own exact size, 2^-42 of the largest
+ *          |x[n]| and 2^-150 of the exact sum; and the root of the sum of all
+ *          squared errors is at most 10^-7 of that of the exact parts, and 2^-146.
+ * Zero:    no part is -0; a frame of zeros gives +0 in every part.
+ * Refuses: with the first of these codes that applies; both lists stay as they
+ *          were, since nothing is written before every input was judged.
+ *          EAR_BAD_LENGTH unless nx is 128 and nre and nim are 65;
+ *          EAR_OUT_OF_RANGE where an element is a NaN, infinite or of size 2^120
+ *          or more.
+ *
+ * x, re and im must be valid, aligned pointers to nx, nre and nim floats, and no
+ * two of the lists may overlap. A call needs some 2.5 KB of stack.
+ */
+uint32_t ear_transform128(const float *x, uint64_t nx, float *re, uint64_t nre, float *im, uint64_t nim);
+
+/*
  * The loudness map: from the envelope of one channel to a whole current step.
  *
  * The channel: b and m are envelope levels, t and c current steps: up to b the

@@ -100,6 +100,29 @@ static void ask_softmax(const struct asked *f, uint32_t pattern, struct answer *
     a->code = f->call.softmax(&x[0].value, nx, &a->after[GUARD].value, np);
 }
 
+/* The real parts, a place between, and the imaginary parts. */
+static void ask_transform(const struct asked *f, uint32_t pattern, struct answer *a)
+{
+    enum { VALUES = 128, PARTS = 65 };
+    static union word x[VALUES];
+    /* exponents: all that are accepted; or subnormal and next to it; or of sounds; or next to the greatest */
+    static const uint32_t lowest[] = {0, 0, 100, 239}, count[] = {247, 2, 28, 8};
+    uint32_t state = pattern, way = draw(&state);
+    for (int i = 0; i < VALUES; i++)
+        x[i] = drawn_float(&state, lowest[way % 4], count[way % 4]);
+    if (way % 64 == 63)
+        x[way / 64 % VALUES].bits = draw(&state) | 0x7b800000;
+    preset(a, 2 * PARTS + 1, pattern);
+    float *re = &a->after[GUARD].value, *im = &a->after[GUARD + PARTS + 1].value;
+    uint32_t more = way / 1024 % 2;
+    switch (way % 64) {
+    case 0: a->code = f->call.transform(&x[0].value, VALUES - 1 + 2 * more, re, PARTS, im, PARTS); break;
+    case 1: a->code = f->call.transform(&x[0].value, VALUES, re, PARTS - 1 + 2 * more, im, PARTS); break;
+    case 2: a->code = f->call.transform(&x[0].value, VALUES, re, PARTS, im, PARTS - 1 + 2 * more); break;
+    default: a->code = f->call.transform(&x[0].value, VALUES, re, PARTS, im, PARTS); break;
+    }
+}
+
 struct channel {
     uint32_t b, m, t, c;
 };
@@ -155,6 +178,8 @@ const struct asked every_function[] = {
      1 << EAR_OK | 1 << EAR_OUT_OF_RANGE | 1 << EAR_BAD_LENGTH | 1 << EAR_OVERFLOW, 16, true},
     {"ear_softmax2", ask_softmax, {.softmax = ear_softmax2},
      1 << EAR_OK | 1 << EAR_OUT_OF_RANGE | 1 << EAR_BAD_LENGTH, 16, false},
+    {"ear_transform128", ask_transform, {.transform = ear_transform128},
+     1 << EAR_OK | 1 << EAR_OUT_OF_RANGE | 1 << EAR_BAD_LENGTH, 64, false},
     {"ear_loudness", ask_map, {.map = ear_loudness}, 1 << EAR_OK | 1 << EAR_OUT_OF_RANGE | 1 << EAR_BAD_CHANNEL, 1, false},
 };
 

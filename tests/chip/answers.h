@@ -31,6 +31,7 @@ struct asked {
         uint32_t (*single)(float x, float *out);
         uint32_t (*dot)(const float *a, uint64_t na, const float *b, uint64_t nb, float *out);
         uint32_t (*softmax)(const float *x, uint64_t nx, float *p, uint64_t np);
+        uint32_t (*transform)(const float *x, uint64_t nx, float *re, uint64_t nre, float *im, uint64_t nim);
         uint32_t (*map)(float b, float m, uint32_t t, uint32_t c, float a, uint32_t *out);
     } call;
     uint32_t codes; /* the codes that it can return, bit 1 << code for each */

@@ -10,6 +10,7 @@ ghost use Rattle.powers.specs.Exp2.{Exp2};
 ghost use Rattle.logs.specs.Log2.{Log2};
 ghost use Rattle.circle.specs.Promise.{SinPi, CosPi, Sin, Cos};
 ghost use Rattle.sums.specs.Dot.{Dot};
+ghost use Rattle.spectrum.specs.Transform.{Transform, bothBits};
 ghost use Rattle.weights.specs.Softmax.{Softmax2, floatsOf};
 
 // The square root of every bit pattern: the nearest float, or code 1 and nothing written.
@@ -142,4 +143,12 @@ pub extern "C" fn ear_loudness_knee(
     ensures { λ code. ⌜ Ends itself (LoudnessKnee top b k m t kk c a) code (now (out .entry)) (now (out .exit)) ⌝ }
 {
     loudness::knee::loudness_knee(top, b, k, m, t, kk, c, a, out)
+}
+
+// The transform of 128 floats, parts 0 to 64: each within 2^-24 of its size, 2^-42 of the largest value and 2^-150, or code 2 or 1 and nothing written.
+#[no_mangle]
+pub extern "C" fn ear_transform128(x: &[f32], re: &mut [u32], im: &mut [u32]) -> u32
+    ensures { λ code. ⌜ Ends bothBits (Transform (now (x .entry)) (length (now (re .entry))) (length (now (im .entry)))) code (now (re .entry), now (im .entry)) (now (re .exit), now (im .exit)) ⌝ }
+{
+    spectrum::transform(x, re, im)
 }
