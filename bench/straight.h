@@ -47,4 +47,52 @@ static inline uint32_t straight_softmax(float (*exp2_of)(float), const float *x,
     return EAR_OK;
 }
 
+/* The transform of 128 floats, real and radix 2, with a table of turns made before. A block of n floats holds the
+ * transform of n values: the real part k at k, up to n / 2, and the imaginary part k at n - k. */
+struct turn {
+    float c, s;
+};
+
+static inline void straight_turns(float (*cos_of)(float), float (*sin_of)(float), struct turn *turns)
+{
+    for (int j = 0; j < 32; j++)
+        turns[j] = (struct turn){cos_of((float)j * 0.0490873852f), sin_of((float)j * 0.0490873852f)};
+}
+
+static void straight_blocks(const struct turn *turns, const float *x, uint32_t step, float *r, uint32_t n)
+{
+    uint32_t h = n / 2;
+    if (n == 2) {
+        r[0] = x[0] + x[step];
+        r[1] = x[0] - x[step];
+        return;
+    }
+    straight_blocks(turns, x, 2 * step, r, h);
+    straight_blocks(turns, x + step, 2 * step, r + h, h);
+    float even = r[0], odd = r[h];
+    r[0] = even + odd;
+    r[h] = even - odd;
+    for (uint32_t k = 1; k < h / 2; k++) {
+        struct turn t = turns[k * step];
+        float er = r[k], ei = r[h - k], or = r[h + k], oi = r[n - k];
+        float re = or * t.c + oi * t.s, im = oi * t.c - or * t.s;
+        r[k] = er + re;
+        r[h - k] = er - re;
+        r[h + k] = im - ei;
+        r[n - k] = im + ei;
+    }
+    r[h + h / 2] = -r[h + h / 2];
+}
+
+static inline void straight_transform(const struct turn *turns, const float *x, float *re, float *im)
+{
+    float r[128];
+    straight_blocks(turns, x, 1, r, 128);
+    im[0] = im[64] = 0;
+    for (uint32_t k = 0; k <= 64; k++)
+        re[k] = r[k];
+    for (uint32_t k = 1; k < 64; k++)
+        im[k] = r[128 - k];
+}
+
 #endif

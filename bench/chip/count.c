@@ -14,7 +14,7 @@
 #include "earmath.h"
 #include "peers.h"
 
-enum { LENGTH = 64, INPUTS = 2000, LISTS = 8, TRACED = 32, TRACED_LISTS = 2, DEEPEST = 1024, PAINT = 0x5a5a5a5a };
+enum { LENGTH = 64, VALUES = 128, PARTS = 65, INPUTS = 2000, LISTS = 8, TRACED = 32, TRACED_LISTS = 2, DEEPEST = 1024, PAINT = 0x5a5a5a5a };
 
 union word {
     uint32_t bits;
@@ -32,6 +32,7 @@ enum evenly { OVER_PATTERNS, OVER_VALUES, IN_LISTS };
 #define BETWEEN_FITTED {"a from b to m; C fitted", OVER_PATTERNS, 0.001f, 0.316227766f}
 #define CHANNEL 0.001f, 0.316227766f, 100, 200
 #define LISTS_OF_64 {"n = 64", IN_LISTS, -4, 4}
+#define FRAMES {"a frame", IN_LISTS, -1, 1}
 
 /* The contests, a line for each: a name, our function and its call, the rival and its call, the inputs. */
 #define CONTESTS(LINE) \
@@ -49,11 +50,13 @@ enum evenly { OVER_PATTERNS, OVER_VALUES, IN_LISTS };
          LISTS_OF_64) \
     LINE(softmax, ear_softmax2, ear_softmax2(list, LENGTH, out, LENGTH), "softmax_in_c", softmax_in_c(list, LENGTH, out), \
          LISTS_OF_64) \
+    LINE(transform, ear_transform128, ear_transform128(list, VALUES, out, PARTS, other, PARTS), "transform_in_c", \
+         transform_in_c(list, out, other), FRAMES) \
     LINE(loudness_map, ear_loudness, ear_loudness(CHANNEL, x, &step), "map_in_c", map_in_c(CHANNEL, x, &step), BETWEEN) \
     LINE(fitted_map, ear_loudness, ear_loudness(CHANNEL, x, &step), "fitted_in_c", fitted_in_c(x, &step), \
          BETWEEN_FITTED)
 
-static float list[LENGTH], other[LENGTH], out[LENGTH];
+static float list[VALUES], other[VALUES], out[VALUES];
 static volatile float y_sink;
 
 static inline uint32_t now(void)
@@ -110,7 +113,7 @@ static float drawn(enum evenly evenly, float low, float high)
 /* The next input; of lists, the next lists. */
 static float next(const struct inputs *in)
 {
-    for (int i = 0; in->evenly == IN_LISTS && i < LENGTH; i++) {
+    for (int i = 0; in->evenly == IN_LISTS && i < VALUES; i++) {
         list[i] = drawn(OVER_VALUES, in->from, in->to);
         other[i] = drawn(OVER_VALUES, in->from, in->to);
     }
@@ -190,6 +193,7 @@ int main(void)
     *(volatile uint32_t *)0x40000008 = 0xffffffff; /* the timer's reload */
     *(volatile uint32_t *)0x40000000 = 1;
     fit_in_c(CHANNEL);
+    turns_in_c();
     for (int i = 0; i < CONTESTS_HELD; i++)
         for (int who = 0; who < 2; who++) {
             (TRACE ? traced : held)(&contests[i], who);

@@ -64,3 +64,15 @@ uint32_t fitted_in_c(float a, uint32_t *out)
         *out = fitted.channel.t + (uint32_t)(0.5f + fitted.slope * (log2f(a) - fitted.log_b));
     return EAR_OK;
 }
+
+static struct turn turns[32];
+
+void turns_in_c(void)
+{
+    straight_turns(cosf, sinf, turns);
+}
+
+void transform_in_c(const float *x, float *re, float *im)
+{
+    straight_transform(turns, x, re, im);
+}

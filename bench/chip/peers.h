@@ -16,4 +16,8 @@ uint32_t map_in_c(float b, float m, uint32_t t, uint32_t c, float a, uint32_t *o
 void fit_in_c(float b, float m, uint32_t t, uint32_t c);
 uint32_t fitted_in_c(float a, uint32_t *out);
 
+/* The transform in floats, with its turns computed once, by turns_in_c. */
+void turns_in_c(void);
+void transform_in_c(const float *x, float *re, float *im);
+
 #endif
