@@ -25,6 +25,16 @@ fn settle_root(n: u64, guess: u64) -> u64
     s
 }
 
+// The same from the number alone: its first 24 digits and the parity of their number give the guess.
+pub fn nearest_root(n: u64) -> u64
+    requires { ⌜ (2 ^ 46 ≤ n) × (n < 2 ^ 48) ⌝ }
+    ensures { λ s. ⌜ IsNear n s ⌝ }
+{
+    let e = (n / 140737488355328) as u32;
+    let m = (n / 8388608) as u32 >> e;
+    settle_root(n, guess::root(m, e))
+}
+
 // The root of a float above zero, as a bit pattern: n has 47 or 48 digits, its root 24.
 fn root_bits(x: f32) -> u32
     requires { ⌜ Positive x ⌝ }

@@ -52,9 +52,13 @@ pub record Turns (c s : ℕ → Difference) (u : ℕ) : Type 0 where
 abbrev pub unitsOf : Float → Difference
 unitsOf x = record { plus = P x; minus = N x }
 
--- the sum over n of x_n t_(k n), t a table of cosines or of sines: it comes round after 128
-unfoldable pub turnedSum : List Float → (ℕ → Difference) → ℕ → Difference
-turnedSum xs t k = total (λ n. times (unitsOf (at xs n)) (t (k * n % 128))) 128
+-- the sum over n of v_n t_(k n), t a table of cosines or of sines: it comes round after 128
+unfoldable pub turnedTotal : (ℕ → Difference) → (ℕ → Difference) → ℕ → Difference
+turnedTotal v t k = total (λ n. times (v n) (t (k * n % 128))) 128
+
+-- the same of the values x_n
+abbrev pub turnedSum : List Float → (ℕ → Difference) → ℕ → Difference
+turnedSum xs t k = turnedTotal (λ n. unitsOf (at xs n)) t k
 
 -- the real and the imaginary part of X_k, times u
 abbrev pub exactRe : List Float → (ℕ → Difference) → ℕ → Difference

@@ -1,8 +1,8 @@
 // The transform of 128 floats: whole numbers inside, one rounding for each output.
 
-mod floats;
+pub mod floats;
 mod turns;
-mod words;
+pub mod words;
 
 ghost use mathlib.Core.Path.{_≡_};
 ghost use lib.ListN.{length};
