@@ -1,0 +1,5 @@
+pub mod Squares
+pub mod Products
+pub mod Roots
+pub mod Bins
+pub mod Channels

@@ -1,0 +1,3 @@
+pub mod Path
+pub mod Steps
+pub mod Ready
