@@ -3,3 +3,5 @@ pub mod Products
 pub mod Roots
 pub mod Bins
 pub mod Channels
+pub mod Adding
+pub mod Envelopes

@@ -1,53 +1,46 @@
+-- `path::bands::accepted` meets its contract. The loop's invariant: the bands below i are such. Assumes nothing.
+use mathlib.Core.Path.{_≡_, refl, sym, subst}
+use mathlib.Core.Bool.{true, false, true≢false}
+use Prim.Native.Nat.{ℕ, _+_, _-_, _/_, _≤_, _<_}
+use native.Mathlib.Nat.{le-antisymm}
+use native.Mathlib.Omega.{arith}
+use lib.ListN.{length}
+use Rattle.path.specs.Path.{Bands}
+use Rattle.path.proofs.Channels.{refuse, bands-none, bands-more}
 use Rattle.path.proofs.bands.accepted.Statement.{statement}
 use Rattle.path.proofs.bands.accepted.Tie as tie
-use Rattle.path.proofs.bands.accepted.Reads as reads
-use Rattle.path.proofs.bands.accepted.Lts as lts
-use Rattle.path.proofs.bands.is_band.Reads as is-band-reads
 
 abbrev Inv-loop : tie.InvT-loop
-Inv-loop top bands n i₀ i = ?
+Inv-loop top bands n i₀ i = (i ≤ n) × Bands top bands i
 
 abbrev μ-loop : tie.MeasureT-loop
-μ-loop top bands n i₀ i = ?
+μ-loop top bands n i₀ i = n - i
 
--- src/bands.rt:46:5
 loop-holds : tie.Need-loop-holds Inv-loop μ-loop
-loop-holds c = ?
+loop-holds c = (omega arith, bands-none _ _)
 
--- src/bands.rt:47:12
 is-band-requires : tie.Need-is-band-requires Inv-loop μ-loop
-is-band-requires c κs = ?
+is-band-requires c κs = omega (arith, c .loop-test .taken)
 
--- src/bands.rt:48:13
 add-i : tie.Need-add-i Inv-loop μ-loop
-add-i c = ?
+add-i c = omega arith
 
--- src/bands.rt:46:5
 loop-less : tie.Need-loop-less Inv-loop μ-loop
-loop-less c = ?
+loop-less c = omega arith
 
--- src/bands.rt:46:5
 loop-again : tie.Need-loop-again Inv-loop μ-loop
-loop-again c = ?
+loop-again c = (omega (arith, c .before .before .loop-test .taken), bands-more _ _ _ (c .before .before .before .loop .inv .1) (c .before .is-band .ensures .if-true (c .if1 .taken)))
 
--- src/bands.rt:50:13
 returns : tie.Need-returns Inv-loop μ-loop
-returns c = ?
+returns c = refuse (λ h. c .before .is-band .ensures .if-false (c .if1 .left) (h .each (c .before .before .before .loop .i) (c .before .before .loop-test .taken)))
 
--- src/bands.rt:41:1
 returns-2 : tie.Need-returns-2 Inv-loop μ-loop
-returns-2 c = ?
+returns-2 c =
+    let s = c .before .before .before in
+    record {
+      if-true = λ e. subst (Bands (s .args .top) (s .args .bands .now)) (le-antisymm (c .before .loop .inv .0) (c .loop-test .left)) (c .before .loop .inv .1);
+      if-false = λ e. absurd (true≢false e);
+    }
 
 pub accepted-spec : {M : Type 1} → statement M
-accepted-spec =
-    tie.close
-    (tie.spec
-    Inv-loop
-    μ-loop
-    loop-holds
-    is-band-requires
-    add-i
-    loop-less
-    loop-again
-    returns
-    returns-2)
+accepted-spec = tie.close (tie.spec Inv-loop μ-loop loop-holds is-band-requires add-i loop-less loop-again returns returns-2)
