@@ -5,3 +5,5 @@ pub mod Bins
 pub mod Channels
 pub mod Adding
 pub mod Envelopes
+pub mod Frames
+pub mod Bandwise
