@@ -37,3 +37,8 @@ pub sum-same : (f g : ℕ → ℕ) (n : ℕ) → ((i : ℕ) → i < n → f i �
 unfolding sumOf
 sum-same f g zero h = refl
 sum-same f g (suc n) h = omega (arith, sum-same f g n (λ i l. h i (omega arith)), h n (omega arith))
+
+pub zeros : (n : ℕ) → sumOf (λ i. 0) n ≡ 0
+unfolding sumOf
+zeros zero = refl
+zeros (suc n) = omega (arith, zeros n)

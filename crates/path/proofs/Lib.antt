@@ -7,3 +7,5 @@ pub mod Adding
 pub mod Envelopes
 pub mod Frames
 pub mod Bandwise
+pub mod Ratios
+pub mod Current
