@@ -9,3 +9,4 @@ pub mod Frames
 pub mod Bandwise
 pub mod Ratios
 pub mod Current
+pub mod Promise

@@ -98,9 +98,9 @@ module _ (top : ℕ) (b m : Float) (t c : ℕ) (ch : Channel top b m t c) (a : F
   starred = elim (le-or-lt (P a) (P b)) [
     | inl l ↦ rw (below (P b) (P m) (P a) l, law .quiet ch e l) (record { most = at-bottom (P b) (P m) _ rising _; least = rw (nothing t (mapErrorNum top)) (le-of-eq (ap (λ (x : ℕ). P b ^ (1000000 * (c - t)) * x) (pow-zero (P m) ∙ sym (pow-zero (P b))))) })
     | inr l ↦ elim (le-or-lt (P m) (P a)) [
-        | inl h ↦ rw (above (P b) (P m) (P a) l h, law .loud ch e h) (record { most = at-top (P b) (P m) _ rising (mapErrorNum top); least = at-top-least (P b) (P m) _ rising _ _ (split (1000000 * (c - t)) (mapErrorNum top)) })
-        | inr h ↦ rw (inside (P b) (P m) (P a) l h) (let n = law .near ch e l h in record { most = n .not-below; least = n .not-above })
-      ]
+      | inl h ↦ rw (above (P b) (P m) (P a) l h, law .loud ch e h) (record { most = at-top (P b) (P m) _ rising (mapErrorNum top); least = at-top-least (P b) (P m) _ rising _ _ (split (1000000 * (c - t)) (mapErrorNum top)) })
+      | inr h ↦ rw (inside (P b) (P m) (P a) l h) (let n = law .near ch e l h in record { most = n .not-below; least = n .not-above })
+    ]
   ]
     where
       nothing : (t n : ℕ) → 1000000 * (t - t) - n ≡ 0

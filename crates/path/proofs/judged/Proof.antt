@@ -1,77 +1,99 @@
+-- `path::judged` meets its contract: each return is an accepted frame with its currents, or one that a test shows is refused. Assumes nothing.
+use mathlib.Core.Path.{_≡_, refl, subst}
+use mathlib.Core.List.{List}
+use Prim.Native.Nat.{ℕ, _<_}
+use native.Mathlib.Nat.{le-trans}
+use native.Mathlib.Omega.{arith}
+use lib.ListN.{length}
+use lib.Ieee.{Float}
 use borrow.Author.Needs.{needs}
+use Rattle.spectrum.specs.Transform.{at}
+use Rattle.spectrum.specs.Floats.{Largest}
+use Rattle.path.specs.Path.{Accepts}
+use Rattle.path.specs.Ready.{Small}
+use Rattle.path.proofs.Frames.{small-words, parts-few}
+use Rattle.path.proofs.Promise.{small-by, sample-of, too-large, refused-sample, promised}
 use Rattle.path.proofs.judged.Statement.{statement}
 use Rattle.path.proofs.judged.Tie as tie
-use Rattle.path.proofs.judged.Reads as reads
-use Rattle.path.proofs.judged.Lts as lts
-use Rattle.path.proofs.bands.steps.Reads as steps-reads
-use Rattle.path.proofs.frame.products.Reads as products-reads
-use Rattle.path.proofs.moduli.moduli.Reads as moduli-reads
-use Rattle.spectrum.proofs.floats.largest.Reads as largest-reads
-use Rattle.spectrum.proofs.words.fill.Reads as fill-reads
 
--- src/lib.rt:46:22
+-- ---- the samples, behind the tests of both largest patterns
+largest-x : (c : tie.After-largest) → Largest (c .before .before .before .before .before .args .x .now) 128 (c .largest .result)
+largest-x c = subst (λ (n : ℕ). Largest (c .before .before .before .before .before .args .x .now) n (c .largest .result)) (c .before .before .before .before .before .pre .0 .samples) (c .largest .ensures)
+
+largest-w : (c : tie.After-largest2) → Largest (c .before .before .before .before .before .before .before .args .w .now) 128 (c .largest2 .result)
+largest-w c = subst (λ (n : ℕ). Largest (c .before .before .before .before .before .before .before .args .w .now) n (c .largest2 .result)) (c .before .before .before .before .before .before .before .pre .0 .window) (c .largest2 .ensures)
+
+samples : (c : tie.Else2) (i : ℕ) → i < 128 → Small (at (c .before .before .before .before .before .before .before .before .args .x .now) i) × Small (at (c .before .before .before .before .before .before .before .before .args .w .now) i)
+samples c i l = (
+  small-by (at (c .before .before .before .before .before .before .before .before .args .x .now) i) (c .before .before .before .before .before .before .before .shared-slice-known .given i) (le-trans (largest-x (c .before .before .before) .most i l) (c .before .before .if1 .left)),
+  small-by (at (c .before .before .before .before .before .before .before .before .args .w .now) i) (c .before .before .before .before .before .before .shared-slice-known2 .given i) (le-trans (largest-w (c .before) .most i l) (c .if2 .left)),
+)
+
+accepts : (c : tie.Else2) → Accepts (c .before .before .before .before .before .before .before .before .args .top) (c .before .before .before .before .before .before .before .before .args .x .now) (c .before .before .before .before .before .before .before .before .args .w .now) (c .before .before .before .before .before .before .before .before .args .bands .now) (length (c .before .before .before .before .before .before .before .before .args .out .now))
+accepts c = record { lengths = c .before .before .before .before .before .before .before .before .pre .0; bands = c .before .before .before .before .before .before .before .before .pre .1; samples = record { sound = λ i l. sample-of _ (samples c i l .0); window = λ i l. sample-of _ (samples c i l .1) } }
+
 largest-requires : tie.Need-largest-requires
 largest-requires c κs = search needs
 
--- src/lib.rt:47:9
 returns : tie.Need-returns
-returns c = ?
+returns c = let s = c .before .before .before .before .before .before in refused-sample (s .args .top) (s .args .x .now) (s .args .w .now) (s .args .bands .now) (length (s .args .out .now)) (s .pre .0) (s .pre .1) (λ h. too-large (s .args .x .now) (c .before .largest .result) (largest-x (c .before)) (c .if1 .taken) (h .sound))
 
--- src/lib.rt:49:22
 largest-requires-2 : tie.Need-largest-requires-2
 largest-requires-2 c κs = search needs
 
--- src/lib.rt:50:9
 returns-2 : tie.Need-returns-2
-returns-2 c = ?
+returns-2 c = let s = c .before .before .before .before .before .before .before .before in refused-sample (s .args .top) (s .args .x .now) (s .args .w .now) (s .args .bands .now) (length (s .args .out .now)) (s .pre .0) (s .pre .1) (λ h. too-large (s .args .w .now) (c .before .largest2 .result) (largest-w (c .before)) (c .if2 .taken) (h .window))
 
--- src/lib.rt:55:27
 slice-aggregate-products : tie.Need-slice-aggregate-products
 slice-aggregate-products c = search needs
 
--- src/lib.rt:55:5
 products-requires : tie.Need-products-requires
-products-requires c κs = ?
+products-requires c κs = let s = c .before .before .before .before .before .before .before .before .before in (s .pre .0 .samples, s .pre .0 .window, refl, samples (c .before))
 
--- src/lib.rt:57:27
 slice-aggregate-fill : tie.Need-slice-aggregate-fill
 slice-aggregate-fill c = search needs
 
--- src/lib.rt:57:37
 slice-aggregate-fill-2 : tie.Need-slice-aggregate-fill-2
 slice-aggregate-fill-2 c = search needs
 
--- src/lib.rt:57:5
 fill-requires : tie.Need-fill-requires
-fill-requires c κs = ?
+fill-requires c κs =
+    let p = c .before .before .before .products in
+    let s = c .before .before .before .before .before .before .before .before .before .before .before .before .before in
+    record { s = 5; size = refl; apart = refl; start = omega arith; as-many = p .ensures .as-many; small = small-words (s .args .x .now) (s .args .w .now) (samples (c .before .before .before .before .before)) (p .last .1 .1 .0) (p .ensures) }
 
--- src/lib.rt:58:20
 slice-aggregate-moduli : tie.Need-slice-aggregate-moduli
 slice-aggregate-moduli c = search needs
 
--- src/lib.rt:58:24
 slice-aggregate-moduli-2 : tie.Need-slice-aggregate-moduli-2
 slice-aggregate-moduli-2 c = search needs
 
--- src/lib.rt:58:5
 moduli-requires : tie.Need-moduli-requires
-moduli-requires c κs = ?
+moduli-requires c κs =
+    let p = c .before .before .before .before .before .before .before .products in
+    let q = c .before .before .before .fill in
+    let s = c .before .before .before .before .before .before .before .before .before .before .before .before .before .before .before .before .before in
+    (q .kept .1 .1 .1 .0, p .ensures .as-many, parts-few (s .args .x .now) (s .args .w .now) (samples (c .before .before .before .before .before .before .before .before .before)) (p .last .1 .1 .0) (p .ensures) (q .last .1 .1 .1 .0) (q .kept .1 .1 .1 .0) (q .ensures))
 
--- src/lib.rt:59:18
 slice-aggregate-steps : tie.Need-slice-aggregate-steps
 slice-aggregate-steps c = search needs
 
--- src/lib.rt:59:5
 steps-requires : tie.Need-steps-requires
-steps-requires c κs = ?
+steps-requires c κs =
+    let g = c .before .before .before .moduli in
+    let s = c .before .before .before .before .before .before .before .before .before .before .before .before .before .before .before .before .before .before .before .before .before in
+    (record { as-many = g .ensures .as-many; few = λ k l. g .ensures .known k l .few }, λ i l. record { top = s .args .top; band = s .pre .1 .each i l; there = omega (arith, l, s .pre .0 .words) })
 
--- src/lib.rt:42:1
 same-length : tie.Need-same-length
 same-length c = search needs
 
--- src/lib.rt:42:1
 returns-3 : tie.Need-returns-3
-returns-3 c = ?
+returns-3 c =
+    let p = c .before .before .before .before .before .before .before .before .before .before .before .before .before .before .products in
+    let q = c .before .before .before .before .before .before .before .before .before .before .fill in
+    let g = c .before .before .before .before .before .before .moduli in
+    let s = c .before .before .before .before .before .before .before .before .before .before .before .before .before .before .before .before .before .before .before .before .before .before .before .before in
+    promised (s .args .top) (s .args .x .now) (s .args .w .now) (s .args .bands .now) (length (s .args .out .now)) (accepts (c .before .before .before .before .before .before .before .before .before .before .before .before .before .before .before .before)) (p .last .1 .1 .0) (p .ensures) (q .last .1 .1 .1 .0) (q .kept .1 .1 .1 .0) (q .ensures) (g .last .1 .0) (g .ensures) (c .before .before .steps .last .1 .1 .0) (c .before .before .steps .ensures)
 
 pub judged-spec : {M : Type 1} → statement M
 judged-spec =
