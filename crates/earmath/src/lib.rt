@@ -11,6 +11,7 @@ ghost use Rattle.logs.specs.Log2.{Log2};
 ghost use Rattle.circle.specs.Promise.{SinPi, CosPi, Sin, Cos};
 ghost use Rattle.sums.specs.Dot.{Dot};
 ghost use Rattle.spectrum.specs.Transform.{Transform, bothBits};
+ghost use Rattle.path.specs.Path.{Currents, asTheyAre};
 ghost use Rattle.weights.specs.Softmax.{Softmax2, floatsOf};
 
 // The square root of every bit pattern: the nearest float, or code 1 and nothing written.
@@ -151,4 +152,18 @@ pub extern "C" fn ear_transform128(x: &[f32], re: &mut [u32], im: &mut [u32]) ->
     ensures { λ code. ⌜ Ends bothBits (Transform (now (x .entry)) (length (now (re .entry))) (length (now (im .entry)))) code (now (re .entry), now (im .entry)) (now (re .exit), now (im .exit)) ⌝ }
 {
     spectrum::transform(x, re, im)
+}
+
+// The currents of up to 65 bands of a windowed frame, each within 0.504 of a step of the exact path's, or code 2, 4 or 1 and nothing written.
+#[no_mangle]
+pub extern "C" fn ear_currents(
+    top: u32,
+    x: &[f32],
+    w: &[f32],
+    bands: &[u32],
+    out: &mut [u32],
+) -> u32
+    ensures { λ code. ⌜ Ends asTheyAre (Currents top (now (x .entry)) (now (w .entry)) (now (bands .entry)) (length (now (out .entry)))) code (now (out .entry)) (now (out .exit)) ⌝ }
+{
+    path::currents(top, x, w, bands, out)
 }
