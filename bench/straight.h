@@ -95,4 +95,28 @@ static inline void straight_transform(const struct turn *turns, const float *x, 
         im[k] = r[128 - k];
 }
 
+/* The path in floats: window, transform, sizes by a root, sums and the map of each band; nothing is tested. */
+static inline void straight_currents(const struct turn *turns, float (*root_of)(float), float (*log2_of)(float), const float *x, const float *w,
+                                     const struct ear_band *bands, uint32_t n, uint32_t *out)
+{
+    float y[128], re[65], im[65];
+    for (int i = 0; i < 128; i++)
+        y[i] = x[i] * w[i];
+    straight_transform(turns, y, re, im);
+    for (int k = 0; k < 65; k++)
+        re[k] = root_of(re[k] * re[k] + im[k] * im[k]);
+    for (uint32_t i = 0; i < n; i++) {
+        float sum = 0;
+        for (uint32_t k = bands[i].lo; k <= bands[i].hi; k++)
+            sum += re[k];
+        float a = sum / 64, low = log2_of(bands[i].b), steps = (float)(bands[i].c - bands[i].t);
+        if (a <= bands[i].b)
+            out[i] = bands[i].t;
+        else if (a >= bands[i].m)
+            out[i] = bands[i].c;
+        else
+            out[i] = bands[i].t + (uint32_t)(0.5f + steps * (log2_of(a) - low) / (log2_of(bands[i].m) - low));
+    }
+}
+
 #endif

@@ -14,7 +14,7 @@
 #include "earmath.h"
 #include "peers.h"
 
-enum { LENGTH = 64, VALUES = 128, PARTS = 65, INPUTS = 2000, LISTS = 8, TRACED = 32, TRACED_LISTS = 2, DEEPEST = 1024, PAINT = 0x5a5a5a5a };
+enum { LENGTH = 64, VALUES = 128, PARTS = 65, BANDS = 22, INPUTS = 2000, LISTS = 8, TRACED = 32, TRACED_LISTS = 2, DEEPEST = 1536, PAINT = 0x5a5a5a5a };
 
 union word {
     uint32_t bits;
@@ -33,6 +33,7 @@ enum evenly { OVER_PATTERNS, OVER_VALUES, IN_LISTS };
 #define CHANNEL 0.001f, 0.316227766f, 100, 200
 #define LISTS_OF_64 {"n = 64", IN_LISTS, -4, 4}
 #define FRAMES {"a frame", IN_LISTS, -1, 1}
+#define FRAMES_OF_22 {"a frame, 22 bands", IN_LISTS, -1, 1}
 
 /* The contests, a line for each: a name, our function and its call, the rival and its call, the inputs. */
 #define CONTESTS(LINE) \
@@ -52,12 +53,23 @@ enum evenly { OVER_PATTERNS, OVER_VALUES, IN_LISTS };
          LISTS_OF_64) \
     LINE(transform, ear_transform128, ear_transform128(list, VALUES, out, PARTS, other, PARTS), "transform_in_c", \
          transform_in_c(list, out, other), FRAMES) \
+    LINE(path, ear_currents, ear_currents(255, list, VALUES, other, VALUES, bands, 6 * BANDS, steps, BANDS), "currents_in_c", \
+         currents_in_c(list, other, bands, BANDS, steps), FRAMES_OF_22) \
     LINE(loudness_map, ear_loudness, ear_loudness(CHANNEL, x, &step), "map_in_c", map_in_c(CHANNEL, x, &step), BETWEEN) \
     LINE(fitted_map, ear_loudness, ear_loudness(CHANNEL, x, &step), "fitted_in_c", fitted_in_c(x, &step), \
          BETWEEN_FITTED)
 
 static float list[VALUES], other[VALUES], out[VALUES];
 static volatile float y_sink;
+static struct ear_band bands[BANDS];
+static uint32_t steps[BANDS];
+
+/* Bands as they are used: wider and wider from bin 2 on, over all bins up to 64. */
+static void make_bands(void)
+{
+    for (uint32_t i = 0; i < BANDS; i++)
+        bands[i] = (struct ear_band){2 + i * i / 8, 2 + (i + 1) * (i + 1) / 8, 0x1p-10f, 1, 100, 200};
+}
 
 static inline uint32_t now(void)
 {
@@ -194,6 +206,7 @@ int main(void)
     *(volatile uint32_t *)0x40000000 = 1;
     fit_in_c(CHANNEL);
     turns_in_c();
+    make_bands();
     for (int i = 0; i < CONTESTS_HELD; i++)
         for (int who = 0; who < 2; who++) {
             (TRACE ? traced : held)(&contests[i], who);

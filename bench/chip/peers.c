@@ -76,3 +76,8 @@ void transform_in_c(const float *x, float *re, float *im)
 {
     straight_transform(turns, x, re, im);
 }
+
+void currents_in_c(const float *x, const float *w, const struct ear_band *bands, uint32_t n, uint32_t *out)
+{
+    straight_currents(turns, newlib_sqrtf, log2f, x, w, bands, n, out);
+}
