@@ -10,3 +10,4 @@ pub mod Bandwise
 pub mod Ratios
 pub mod Current
 pub mod Promise
+pub mod Louder

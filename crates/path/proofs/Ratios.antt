@@ -17,7 +17,7 @@ use Rattle.loudness.proofs.Promise.{promised}
 use Rattle.path.specs.Path.{between, pathErrorNum, pathErrorDen}
 
 -- powers of a number above zero
-pow-positive : {n : ℕ} → 0 < n → (k : ℕ) → 0 < n ^ k
+pub pow-positive : {n : ℕ} → 0 < n → (k : ℕ) → 0 < n ^ k
 pow-positive {n} p k = lt-of-lt-of-le (pow-pos 0) (le-trans (le-of-eq (sym (one-pow k))) (pow-le-pow-left p k))
   where
     one-pow : (k : ℕ) → 1 ^ k ≡ 1
