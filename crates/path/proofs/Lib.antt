@@ -11,3 +11,4 @@ pub mod Ratios
 pub mod Current
 pub mod Promise
 pub mod Louder
+pub mod Alone
