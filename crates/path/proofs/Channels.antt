@@ -6,7 +6,7 @@ use mathlib.Core.List.{List}
 use Prim.Native.Nat.{ℕ, _+_, _*_, _/_, _≤_, _<_}
 use native.Mathlib.Omega.{arith}
 use lib.Dec.{T}
-use lib.Ieee.{Float, nan, inf, fin, binary32, ofBits, toBits, isNan, nanBits}
+use lib.Ieee.{binary32, ofBits, toBits, nanBits}
 use lib.Ieee.Bits.{nanBits-is}
 use Rattle.units.specs.Units.{Number}
 use Rattle.units.specs.Tests.{Tells}
@@ -16,6 +16,7 @@ use Rattle.units.proofs.Patterns.{pattern-back}
 use Rattle.loudness.specs.Map.{Levels}
 use Rattle.loudness.proofs.Sizes.{too-loud, no-octave}
 use Rattle.path.specs.Path.{Band, Bands}
+use Rattle.path.proofs.Products.{no-nan}
 
 -- an answer of no
 pub refuse : {H : Type 0} → ¬ H → Tells H false
@@ -24,12 +25,6 @@ refuse n = record { if-true = λ e. absurd (true≢false (sym e)); if-false = λ
 -- ---- patterns up to that of 1
 pub readable : (p : ℕ) → p ≤ 1065353216 → T (not (nanBits binary32 p))
 readable p l = no-nan-positive p (omega arith)
-
-no-nan : (x : Float) → Number x → T (not (isNan x))
-unfolding isNan
-no-nan nan n = n .is-finite
-no-nan (inf s) n = tt
-no-nan (fin s m e) n = tt
 
 -- the pattern of a number is that of its float
 back : (p : ℕ) → p < 4294967296 → Number (ofBits binary32 p) → toBits binary32 (ofBits binary32 p) ≡ p

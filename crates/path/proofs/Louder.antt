@@ -234,9 +234,9 @@ module _ (top : ℕ) (xs xs′ ws : List Float) (bs : List ℕ) (n : ℕ) (is is
   near = elim (le-or-lt m (bandSum ls (lo bs i) (hi bs i))) [
     | inl g ↦ le-trans (mul-le-mul-left (2 ^ 24) (between-most b m rising _)) (le-trans (more m) (mul-le-mul-left (2 ^ 24 + 42) (loud g)))
     | inr g ↦ elim (between-either b m rising (bandSum hs (lo bs i) (hi bs i))) [
-        | inl e ↦ le-trans (mul-le-mul-left (2 ^ 24) (le-trans e (between-least b m rising _))) (more A′)
-        | inr e ↦ le-trans (mul-le-mul-left (2 ^ 24) (le-trans e sums)) (spare (bandSum ls (lo bs i) (hi bs i)) A′ (between-above b m rising _ g) (le-trans (le-trans (lit≤ tt) long) (between-least b m rising _)))
-      ]
+      | inl e ↦ le-trans (mul-le-mul-left (2 ^ 24) (le-trans e (between-least b m rising _))) (more A′)
+      | inr e ↦ le-trans (mul-le-mul-left (2 ^ 24) (le-trans e sums)) (spare (bandSum ls (lo bs i) (hi bs i)) A′ (between-above b m rising _ g) (le-trans (le-trans (lit≤ tt) long) (between-least b m rising _)))
+    ]
   ]
     where
       more : (x : ℕ) → 2 ^ 24 * x ≤ (2 ^ 24 + 42) * x

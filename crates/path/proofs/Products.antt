@@ -1,12 +1,15 @@
 -- A product of a sample and a window value: digits and places, the sign, and how far its word is from it. Assumes nothing.
 use mathlib.Core.Path.{_≡_, refl, sym, ap, ap₂, _∙_, subst}
-use mathlib.Core.Bool.{Bool, true, false, cond}
+use mathlib.Core.Logic.{inl, inr}
+use mathlib.Core.Bool.{Bool, true, false, cond, not}
 use Prim.Native.Nat.{ℕ, _+_, _-_, _*_, _/_, _%_, _^_, _≤_, _<_}
-use native.Mathlib.Nat.{le-trans, le-of-eq, mul-le-mul, mul-le-mul-right, mul-div-mul-right, div-mul-le-self, lt-div-mul-add, div-le-of-le-mul, le-of-mul-le-mul-right}
+use native.Mathlib.Nat.{le-trans, le-of-eq, lt-of-le-of-lt, lt-of-lt-of-le, mul-comm, mul-one, div-eq-of-lt, mul-le-mul, mul-le-mul-right, mul-div-mul-right, div-mul-le-self, lt-div-mul-add, le-of-mul-le-mul-right}
 use native.Mathlib.Omega.{arith}
-use lib.Pow.{pow-add, pow-pos}
-use lib.Ieee.{Float, binary32, toBits}
+use lib.Dec.{T, lit<}
+use lib.Pow.{pow-add, pow-pos, pow-mono}
+use lib.Ieee.{Float, nan, inf, fin, binary32, toBits, isNan}
 use Rattle.units.specs.Units.{mag, negative, Number}
+use Rattle.units.proofs.Naturals.{le-or-lt}
 use Rattle.units.proofs.Patterns.{packed-of}
 use Rattle.spectrum.specs.Difference.{Difference, whole, times}
 use Rattle.spectrum.specs.Table.{unit}
@@ -14,12 +17,12 @@ use Rattle.spectrum.specs.Words.{valueOf, Small as SmallWord}
 use Rattle.spectrum.specs.Transform.{unitsOf}
 use Rattle.spectrum.specs.Floats.{digitsIn, placeIn, sizeIn, sizeBits}
 use Rattle.spectrum.proofs.Differences.{Close}
-use Rattle.spectrum.proofs.Sizes.{size-of, size-mono}
+use Rattle.spectrum.proofs.Sizes.{size-of, size-mono, low-digits, high-digits, low-place}
 use Rattle.path.specs.Steps.{productSize, productWord}
 use Rattle.path.specs.Ready.{Small}
 
 -- ---- digits and places
-pub shifted : (d k e j : ℕ) → k + j ≤ 252 → d * (e * 128) / 2 ^ (252 - (k + j)) ≡ d * 2 ^ k * (e * 2 ^ j) * 2 ^ 53 / 2 ^ 298
+shifted : (d k e j : ℕ) → k + j ≤ 252 → d * (e * 128) / 2 ^ (252 - (k + j)) ≡ d * 2 ^ k * (e * 2 ^ j) * 2 ^ 53 / 2 ^ 298
 shifted d k e j l = sym (ap₂ _/_ (digits (2 ^ k) (2 ^ j) (2 ^ (k + j + 46)) powers) wide ∙ mul-div-mul-right (d * (e * 128)) (2 ^ (252 - (k + j))) (pow-pos (k + j + 46)))
   where
     powers : 2 ^ (k + j + 46) ≡ 2 ^ k * 2 ^ j * 2 ^ 46
@@ -34,10 +37,6 @@ shifted d k e j l = sym (ap₂ _/_ (digits (2 ^ k) (2 ^ j) (2 ^ (k + j + 46)) po
         sum : 298 ≡ 252 - (k + j) + (k + j + 46)
         sum = omega arith
 
--- the same of digits and places that were found
-pub shifted-from : (D K E J d k e j r : ℕ) → d ≡ D → k ≡ K → e ≡ E → j ≡ J → K + J ≤ 252 → r ≡ d * (e * 128) / 2 ^ (252 - (k + j)) → r ≡ D * 2 ^ K * (E * 2 ^ J) * 2 ^ 53 / 2 ^ 298
-shifted-from D K E J d k e j r a b c f l h = rw (a, b, c, f) at h ∙ shifted D K E J l
-
 pub digits-fit : (a b : ℕ) → a < 2 ^ 24 → b < 2 ^ 24 → a * (b * 128) ≤ 2 ^ 55
 digits-fit a b l h = le-trans (mul-le-mul (below l) (more h)) (le-of-eq refl)
   where
@@ -47,17 +46,57 @@ digits-fit a b l h = le-trans (mul-le-mul (below l) (more h)) (le-of-eq refl)
     more : {b : ℕ} → b < 2 ^ 24 → b * 128 ≤ 2 ^ 31
     more l = omega arith
 
-pub place-few : (b : ℕ) → b ≤ 1065353216 → placeIn b ≤ 126
-unfolding placeIn
-place-few b l = omega arith
+-- ---- a product by the two patterns: normal factors as they are, and of a subnormal one nothing is left
+module _ (p q : ℕ) (lp : p ≤ 1065353216) (lq : q ≤ 1065353216) where
+  abbrev shifted-digits : ℕ
+  shifted-digits = (p % 8388608 + 8388608) * ((q % 8388608 + 8388608) * 128) / 2 ^ (254 - (p / 8388608 + q / 8388608))
+
+  abbrev exact : ℕ
+  exact = digitsIn p * 2 ^ placeIn p * (digitsIn q * 2 ^ placeIn q) * 2 ^ 53 / 2 ^ 298
+
+  pub few-digits : (p % 8388608 + 8388608) * ((q % 8388608 + 8388608) * 128) ≤ 2 ^ 55
+  few-digits = digits-fit (p % 8388608 + 8388608) (q % 8388608 + 8388608) (omega arith) (omega arith)
+
+  normal : 8388608 ≤ p → 8388608 ≤ q → shifted-digits ≡ exact
+  unfolding placeIn
+  normal a b = ap (λ (i : ℕ). (p % 8388608 + 8388608) * ((q % 8388608 + 8388608) * 128) / 2 ^ i) (places a b) ∙ shifted (p % 8388608 + 8388608) (p / 8388608 - 1) (q % 8388608 + 8388608) (q / 8388608 - 1) (omega arith) ∙ ap₂ (λ d e. d * 2 ^ (p / 8388608 - 1) * (e * 2 ^ (q / 8388608 - 1)) * 2 ^ 53 / 2 ^ 298) (sym (high-digits p a)) (sym (high-digits q b))
+    where
+      places : 8388608 ≤ p → 8388608 ≤ q → 254 - (p / 8388608 + q / 8388608) ≡ 252 - (p / 8388608 - 1 + (q / 8388608 - 1))
+      places a b = omega arith
+
+  none : p / 8388608 + q / 8388608 ≤ 127 → 0 ≡ shifted-digits
+  none l = sym (div-eq-of-lt (lt-of-le-of-lt few-digits (lt-of-lt-of-le (lit< tt) (pow-mono {i = 56} {j = 254 - (p / 8388608 + q / 8388608)} (omega arith)))))
+
+  -- a factor below 2 ^ 23 and another of at most 1
+  nothing : (x y : ℕ) → x ≤ 2 ^ 23 → y ≤ 2 ^ 149 → 0 ≡ x * y * 2 ^ 53 / 2 ^ 298
+  nothing x y a b = sym (div-eq-of-lt (lt-of-le-of-lt (mul-le-mul-right (2 ^ 53) (mul-le-mul a b)) (lit< tt)))
+
+  low-size : (b : ℕ) → b < 8388608 → sizeIn b ≤ 2 ^ 23
+  low-size b l = le-trans (le-of-eq (ap₂ (λ d k. d * 2 ^ k) (low-digits b l) (low-place b l) ∙ mul-one b)) (less l)
+    where
+      less : b < 8388608 → b ≤ 2 ^ 23
+      less l = omega arith
+
+  one-size : (b : ℕ) → b ≤ 1065353216 → sizeIn b ≤ 2 ^ 149
+  unfolding digitsIn placeIn
+  one-size b l = le-trans (size-mono b 1065353216 l) (le-of-eq refl)
+
+  pub by-patterns : shifted-digits ≡ exact
+  by-patterns = elim (le-or-lt 8388608 p) [
+    | inl a ↦ elim (le-or-lt 8388608 q) [
+      | inl b ↦ normal a b
+      | inr b ↦ sym (none (omega arith)) ∙ nothing (sizeIn q) (sizeIn p) (low-size q b) (one-size p lp) ∙ ap (λ (n : ℕ). n * 2 ^ 53 / 2 ^ 298) (mul-comm (sizeIn q) (sizeIn p))
+    ]
+    | inr a ↦ sym (none (omega arith)) ∙ nothing (sizeIn p) (sizeIn q) (low-size p a) (one-size q lq)
+  ]
 
 -- ---- sizes
-one-size : sizeIn 1065353216 ≡ 2 ^ 149
+full-scale : sizeIn 1065353216 ≡ 2 ^ 149
 unfolding digitsIn placeIn
-one-size = refl
+full-scale = refl
 
 pub small-size : (x : Float) → Small x → mag x ≤ 2 ^ 149
-small-size x s = le-trans (le-of-eq (size-of x (s .number))) (le-trans (size-mono (sizeBits x) 1065353216 (s .bits)) (le-of-eq one-size))
+small-size x s = le-trans (le-of-eq (size-of x (s .number))) (le-trans (size-mono (sizeBits x) 1065353216 (s .bits)) (le-of-eq full-scale))
 
 pub product-size : (x w : Float) → Small x → Small w → digitsIn (sizeBits x) * 2 ^ placeIn (sizeBits x) * (digitsIn (sizeBits w) * 2 ^ placeIn (sizeBits w)) * 2 ^ 53 / 2 ^ 298 ≡ productSize x w
 unfolding productSize
@@ -69,6 +108,13 @@ product-most x w sx sw = le-of-mul-le-mul-right (le-trans (div-mul-le-self (mag 
   where
     same : 2 ^ 149 * 2 ^ 149 * 2 ^ 53 ≡ 2 ^ 53 * 2 ^ 298
     same = refl
+
+-- ---- a number is no NaN
+pub no-nan : (x : Float) → Number x → T (not (isNan x))
+unfolding isNan
+no-nan nan n = n .is-finite
+no-nan (inf s) n = tt
+no-nan (fin s m e) n = tt
 
 -- ---- signs
 sign : (x : Float) → Number x → (s : Bool) → negative x ≡ s → toBits binary32 x / 2147483648 ≡ cond s 1 0

@@ -3,6 +3,8 @@
 ghost use mathlib.Core.Path.{_≡_};
 ghost use Prim.Native.Nat.{ℕ, _*_, _/_, _%_, _^_, _≤_, _<_};
 ghost use lib.ListN.{length};
+ghost use lib.Ieee.{binary32, toBits};
+ghost use Rattle.units.specs.Units.{Number};
 ghost use Rattle.spectrum.specs.Transform.{at};
 ghost use Rattle.spectrum.specs.Floats.{digitsIn, placeIn};
 ghost use Rattle.path.specs.Steps.{productWord, Products};
@@ -10,24 +12,12 @@ ghost use Rattle.path.specs.Ready.{Small};
 
 const UNIT: u64 = 0x2000_0000_0000_0000;
 
-// The digits of the size with the pattern b.
-fn digits(b: u32) -> u32
-    ensures { λ r. ⌜ r ≡ digitsIn b ⌝ }
+// The pattern of a number: no NaN, so that nothing has to be asked.
+fn bits(x: f32) -> u32
+    requires { ⌜ Number x ⌝ }
+    ensures { λ r. ⌜ r ≡ toBits binary32 x ⌝ }
 {
-    if b < 8388608 {
-        return b;
-    }
-    b % 8388608 + 8388608
-}
-
-// Their place.
-fn place(b: u32) -> u32
-    ensures { λ r. ⌜ r ≡ placeIn b ⌝ }
-{
-    if b < 8388608 {
-        return 0;
-    }
-    b / 8388608 - 1
+    f32::to_bits(x)
 }
 
 // n without its last s digits.
@@ -40,15 +30,13 @@ fn without(n: u64, s: u32) -> u64
     0
 }
 
-// The size of a product, in units of 2^-53.
+// The size of a product, in units of 2^-53. A subnormal factor is given a 24th digit, which is far below the units.
 fn product_size(p: u32, q: u32) -> u64
     requires { ⌜ (p ≤ 1065353216) × (q ≤ 1065353216) ⌝ }
     ensures { λ r. ⌜ r ≡ digitsIn p * 2 ^ placeIn p * (digitsIn q * 2 ^ placeIn q) * 2 ^ 53 / 2 ^ 298 ⌝ }
 {
-    without(
-        digits(p) as u64 * (digits(q) as u64 * 128),
-        252 - (place(p) + place(q)),
-    )
+    let n = (p % 8388608 + 8388608) as u64 * ((q % 8388608 + 8388608) as u64 * 128);
+    without(n, 254 - (p / 8388608 + q / 8388608))
 }
 
 // A product as a word.
@@ -56,8 +44,8 @@ fn product(x: f32, w: f32) -> u64
     requires { ⌜ Small x × Small w ⌝ }
     ensures { λ r. ⌜ r ≡ productWord x w ⌝ }
 {
-    let a = fixed::bits_of(x);
-    let b = fixed::bits_of(w);
+    let a = bits(x);
+    let b = bits(w);
     let y = product_size(a % 2147483648, b % 2147483648);
     if a < 2147483648 {
         if b < 2147483648 {
