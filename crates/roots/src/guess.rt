@@ -108,3 +108,85 @@ pub fn reciprocal(m: u32, e: u32) -> u64
     let high = term(t.a, 1073741824) + term(t.b, v * 32) + term(t.c, v2 / 8192);
     (high + low) / 137438953472
 }
+
+// ---- by Newton's rule, for a root that comes without a significand and an exponent
+
+// 2^47 over the root of h, for h in the middle of the numbers with the first six digits i.
+fn first_value(i: u32) -> u32 {
+    match i {
+        16 => 0xfc176441,
+        17 => 0xf4c866d7,
+        18 => 0xee133df5,
+        19 => 0xe7e3ed19,
+        20 => 0xe229ec88,
+        21 => 0xdcd76dd3,
+        22 => 0xd7e0cec3,
+        23 => 0xd33c2da1,
+        24 => 0xcee115f2,
+        25 => 0xcac83f5c,
+        26 => 0xc6eb5a2b,
+        27 => 0xc344e63f,
+        28 => 0xbfd011f9,
+        29 => 0xbc889f5e,
+        30 => 0xb96ace23,
+        31 => 0xb673498f,
+        32 => 0xb39f1978,
+        33 => 0xb0eb95bd,
+        34 => 0xae565bc0,
+        35 => 0xabdd4587,
+        36 => 0xa97e6234,
+        37 => 0xa737ef9a,
+        38 => 0xa50854bd,
+        39 => 0xa2ee1d1e,
+        40 => 0xa0e7f4a0,
+        41 => 0x9ef4a404,
+        42 => 0x9d130dd3,
+        43 => 0x9b422bb3,
+        44 => 0x99810c09,
+        45 => 0x97cecfeb,
+        46 => 0x962aa94c,
+        47 => 0x9493d967,
+        48 => 0x9309af49,
+        49 => 0x918b8696,
+        50 => 0x9018c663,
+        51 => 0x8eb0e038,
+        52 => 0x8d534f28,
+        53 => 0x8bff9700,
+        54 => 0x8ab54396,
+        55 => 0x8973e816,
+        56 => 0x883b1e76,
+        57 => 0x870a86e7,
+        58 => 0x85e1c75c,
+        59 => 0x84c08b1b,
+        60 => 0x83a68254,
+        61 => 0x829361c9,
+        62 => 0x8186e275,
+        _ => 0x8080c142,
+    }
+}
+
+// A product of two words.
+fn whole(a: u32, b: u32) -> u64
+    ensures { λ r. ⌜ r ≤ 4294967295 * 4294967295 ⌝ }
+{
+    a as u64 * b as u64
+}
+
+// Its upper half.
+fn upper(a: u32, b: u32) -> u32 {
+    (whole(a, b) / 4294967296) as u32
+}
+
+// A step towards 2^47 over the root of h: y (3 - h y^2) / 2.
+fn nearer(h: u32, y: u32) -> u32 {
+    let e = upper(h, upper(y, y));
+    (whole(y, std::num::wrapping_sub_u32(0xc000_0000, e)) / 2147483648 % 4294967296) as u32
+}
+
+// A guess at the root of h 2^16, h of 31 or 32 digits.
+pub fn newton(h: u32) -> u64
+    ensures { λ r. ⌜ r < 2 ^ 26 ⌝ }
+{
+    let y = nearer(h, nearer(h, first_value(h / 67108864)));
+    ((upper(h, y) / 64 + 1) / 2) as u64
+}

@@ -25,14 +25,12 @@ fn settle_root(n: u64, guess: u64) -> u64
     s
 }
 
-// The same from the number alone: its first 24 digits and the parity of their number give the guess.
+// The same from the number alone: its first 32 digits give the guess.
 pub fn nearest_root(n: u64) -> u64
     requires { ⌜ (2 ^ 46 ≤ n) × (n < 2 ^ 48) ⌝ }
     ensures { λ s. ⌜ IsNear n s ⌝ }
 {
-    let e = (n / 140737488355328) as u32;
-    let m = (n / 8388608) as u32 >> e;
-    settle_root(n, guess::root(m, e))
+    settle_root(n, guess::newton((n / 65536) as u32))
 }
 
 // The root of a float above zero, as a bit pattern: n has 47 or 48 digits, its root 24.
