@@ -5,7 +5,7 @@ guess make the result right whatever the guess is, and the tables decide only ho
 
 On a piece the function is fitted at Chebyshev nodes; the highest coefficient is rounded, the lower ones are fitted again
 to what is left, and so on; the constant is put in the middle of the last error, plus 1/2, so that cutting off rounds.
-Run it with no argument: it prints both tables as they stand in the source."""
+The first values for Newton's rule are those in the middle of a piece. Run it with no argument: it prints the tables as they stand in the source."""
 
 import math
 
@@ -65,3 +65,8 @@ show("root_row", lambda odd, m: math.sqrt(m * 2.0 ** (23 + odd)), (1, 0),
 show("reciprocal_row", lambda odd, m: 2.0 ** 35 * math.sqrt(2.0 ** odd / m), (0, 1),
      [lambda d, i=i: float(WIDTH - 1 - d) ** i for i in range(5)],
      [2.0 ** -7, 2.0 ** -32, 2.0 ** -50, 2.0 ** -78, 2.0 ** -88])
+# 2 ^ 47 over the root of h, h in the middle of the words of 32 digits with the first six digits i.
+print("fn first_value(i: u32) -> u32 {\n    match i {")
+for i in range(16, 64):
+    print(f"        {i if i < 63 else '_'} => 0x{round(2.0 ** 47 / math.sqrt((i + 0.5) * 2.0 ** 26)):08x},")
+print("    }\n}")
