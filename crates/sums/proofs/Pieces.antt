@@ -14,7 +14,7 @@ use lib.Ieee.Fits.{add-fits, mul-fits}
 use Rattle.units.proofs.Naturals.{le-or-lt, pow-back, pow-back-lt}
 use Rattle.sums.specs.Sum.{Sum, total}
 use Rattle.sums.specs.Dot.{Lengths, products, nextRow, inPairs, dotOf}
-use Rattle.sums.specs.Value.{Behind, blockOf, minusZero, sumOf}
+use Rattle.sums.specs.Value.{Behind, blockOf, minusZero, sumOf, behindLast}
 use Rattle.sums.proofs.Rows.{twice, steady, cut, length-products, drop-products}
 use Rattle.units.proofs.Neutral.{add-minus-zero}
 
@@ -123,13 +123,9 @@ module _ (a b : List Float) (l : Lengths a b) where
       ap₂ (add binary32) f (g ∙ sym (ap₂ sumOf (drop-drop (2 ^ k) i a) (drop-drop (2 ^ k) i b)))
       ∙ sym (first-piece k (drop i a) (drop i b) (same-behind i) (few-behind i) (omega arith) (omega arith))
 
-  -- the products behind the last multiple of w
-  abbrev pub behindLast : ℕ → Float
-  behindLast w = sumOf (drop (length a / w * w) a) (drop (length a / w * w) b)
-
-  -- a digit of the length that is 1 is a block in front of them
-  pub digit-on : (k : ℕ) {x y : List Float} {r s : Float} → length a / 2 ^ k % 2 ≡ 1 → s ≡ behindLast (2 ^ k)
-      → Behind (length a / (2 ^ k * 2) * (2 ^ k * 2)) a x → Behind (length a / (2 ^ k * 2) * (2 ^ k * 2)) b y → r ≡ blockOf k x y → add binary32 r s ≡ behindLast (2 ^ k * 2)
+  -- a digit of the length that is 1 is a block in front of what lies behind it
+  pub digit-on : (k : ℕ) {x y : List Float} {r s : Float} → length a / 2 ^ k % 2 ≡ 1 → s ≡ behindLast (2 ^ k) a b
+      → Behind (length a / (2 ^ k * 2) * (2 ^ k * 2)) a x → Behind (length a / (2 ^ k * 2) * (2 ^ k * 2)) b y → r ≡ blockOf k x y → add binary32 r s ≡ behindLast (2 ^ k * 2) a b
   digit-on k odd f p q g =
       let W = 2 ^ k in
       let h = div-add-mod' (length a) W in
@@ -141,7 +137,7 @@ module _ (a b : List Float) (l : Lengths a b) where
       doubled q w p e o = let t : q ≡ 2 * p + 1 = omega arith in rw t (omega arith)
 
   -- and one that is 0 changes nothing
-  pub digit-off : (k : ℕ) {s : Float} → (length a / 2 ^ k % 2 ≡ 1 → ⊥) → s ≡ behindLast (2 ^ k) → s ≡ behindLast (2 ^ k * 2)
+  pub digit-off : (k : ℕ) {s : Float} → (length a / 2 ^ k % 2 ≡ 1 → ⊥) → s ≡ behindLast (2 ^ k) a b → s ≡ behindLast (2 ^ k * 2) a b
   digit-off k even f = f ∙ ap (λ (n : ℕ). sumOf (drop n a) (drop n b)) (doubled (length a / 2 ^ k) (2 ^ k) (length a / (2 ^ k * 2)) (sym (div-div-eq-div-mul (length a) (2 ^ k) 2)) even)
     where
       doubled : (q w p : ℕ) → p ≡ q / 2 → (q % 2 ≡ 1 → ⊥) → q * w ≡ p * (w * 2)

@@ -1,7 +1,7 @@
 -- What the parts of the program compute. A reader of the promise need not read this: Dot says what is computed of the whole lists. Definitions only.
 use mathlib.Core.Path.{_≡_}
 use mathlib.Core.List.{List, [], _∷_}
-use Prim.Native.Nat.{ℕ, zero, suc, _+_, _*_, _^_, _≤_, _<_}
+use Prim.Native.Nat.{ℕ, zero, suc, _+_, _*_, _/_, _^_, _≤_, _<_}
 use lib.ListN.{length, getD, drop}
 use lib.Ieee.{Float, nan, binary32, ofBits, add, mul}
 use Rattle.sums.specs.Dot.{dotOf}
@@ -24,6 +24,10 @@ minusZero = ofBits binary32 2147483648
 unfoldable pub sumOf : List Float → List Float → Float
 sumOf [] b = minusZero
 sumOf (x ∷ a) b = dotOf (x ∷ a) b
+
+-- the sum of the products behind the last multiple of w of them
+abbrev pub behindLast : ℕ → List Float → List Float → Float
+behindLast w a b = sumOf (drop (length a / w * w) a) (drop (length a / w * w) b)
 
 -- what a counter holds after i blocks of 64 products: for each binary digit l of i that is 1 the sum of 2 ^ l blocks, those that follow the blocks of the higher digits
 pub record Held (a b : List Float) (i : ℕ) (held : List Float) : Type 0 where

@@ -1,12 +1,12 @@
 // The dot product: neighbours are added in pairs, and finiteness is tested once, at the end.
 
 ghost use mathlib.Core.Path.{_≡_};
-ghost use Prim.Native.Nat.{_+_, _*_, _/_, _≤_, _<_};
-ghost use lib.ListN.{length, drop};
+ghost use Prim.Native.Nat.{_+_, _*_, _≤_, _<_};
+ghost use lib.ListN.{length};
 ghost use lib.Ieee.Scale.{finite};
 ghost use Rattle.units.specs.Answers.{Ends, floatBits};
 ghost use Rattle.sums.specs.Dot.{Lengths, Dot, dotOf, allFinite};
-ghost use Rattle.sums.specs.Value.{Behind, Long, blockOf, sumOf, Held};
+ghost use Rattle.sums.specs.Value.{Behind, Long, blockOf, behindLast, Held};
 
 // What is left of a list behind its first i elements.
 fn behind(a: &[f32], i: usize) -> &[f32]
@@ -68,7 +68,7 @@ fn sixty_four(a: &[f32], b: &[f32]) -> f32
 // to the first, as neighbours in pairs come to. -0 where there are none: it changes no sum that it is added to.
 fn rest(a: &[f32], b: &[f32]) -> f32
     requires { ⌜ Lengths (now a) (now b) ⌝ }
-    ensures { λ r. ⌜ r ≡ sumOf (drop (length (now (a .entry)) / 64 * 64) (now (a .entry))) (drop (length (now (a .entry)) / 64 * 64) (now (b .entry))) ⌝ }
+    ensures { λ r. ⌜ r ≡ behindLast 64 (now (a .entry)) (now (b .entry)) ⌝ }
 {
     let n = a.len();
     let mut s = f32::from_bits(0x8000_0000);
@@ -120,7 +120,7 @@ fn carry(a: &[f32], b: &[f32], held: &mut [f32; 11], i: u32)
 
 // All blocks of 64 counted, and what the counter holds added to the rest, from the last piece to the first.
 fn blocks(a: &[f32], b: &[f32], rest: f32) -> f32
-    requires { ⌜ Lengths (now a) (now b) × (64 ≤ length (now a)) × (rest ≡ sumOf (drop (length (now a) / 64 * 64) (now a)) (drop (length (now a) / 64 * 64) (now b))) ⌝ }
+    requires { ⌜ Lengths (now a) (now b) × (64 ≤ length (now a)) × (rest ≡ behindLast 64 (now a) (now b)) ⌝ }
     ensures { λ r. ⌜ r ≡ dotOf (now (a .entry)) (now (b .entry)) ⌝ }
 {
     let m = (a.len() / 64) as u32;

@@ -6,8 +6,8 @@ use native.Mathlib.Omega.{arith}
 use lib.ListN.{length, drop}
 use lib.Ieee.{Float, nanBits}
 use borrow.Author.Needs.{needs}
-use Rattle.sums.specs.Value.{sumOf}
-use Rattle.sums.proofs.Pieces.{behindLast, digit-on, digit-off, last-one, none-left}
+use Rattle.sums.specs.Value.{sumOf, behindLast}
+use Rattle.sums.proofs.Pieces.{digit-on, digit-off, last-one, none-left}
 use Rattle.sums.proofs.rest.Statement.{statement}
 use Rattle.sums.proofs.rest.Tie as tie
 
@@ -22,22 +22,22 @@ returns c =
     none-left (start .args .a .now) (start .args .b .now) (start .pre) (n / 64 * 64) (omega arith)
 
 sub-s : tie.Need-sub-s
-sub-s c = search needs
+sub-s c = omega arith
 
 mul-s : tie.Need-mul-s
-mul-s c = search needs
+mul-s c = omega arith
 
 shared-slice-read-s : tie.Need-shared-slice-read-s
-shared-slice-read-s c = search needs
+shared-slice-read-s c = omega arith
 
 sub-s-2 : tie.Need-sub-s-2
-sub-s-2 c = search needs
+sub-s-2 c = omega arith
 
 mul-s-2 : tie.Need-mul-s-2
-mul-s-2 c = search needs
+mul-s-2 c = omega arith
 
 shared-slice-read-s-2 : tie.Need-shared-slice-read-s-2
-shared-slice-read-s-2 c = search needs
+shared-slice-read-s-2 c = omega arith
 
 -- ---- s after each digit
 abbrev start : tie.Joined2 → tie.Start
@@ -45,7 +45,7 @@ start c = c .before .before .before .before
 
 -- it is the sum of the products behind the last multiple of w
 abbrev Tail : (w : ℕ) → tie.Start → Float → Type 0
-Tail w o s = s ≡ behindLast (o .args .a .now) (o .args .b .now) (o .pre) w
+Tail w o s = s ≡ behindLast w (o .args .a .now) (o .args .b .now)
 
 after-one : (c : tie.Joined2) → Tail 2 (start c) (c .if2 .s)
 after-one c =
@@ -60,16 +60,16 @@ after-one c =
     ]
 
 mul-i : tie.Need-mul-i
-mul-i c = search needs
+mul-i c = omega arith
 
 behind-requires : tie.Need-behind-requires
-behind-requires c κs = search needs
+behind-requires c κs = omega arith
 
 behind-requires-2 : tie.Need-behind-requires-2
-behind-requires-2 c κs = search needs
+behind-requires-2 c κs = omega arith
 
 two-requires : tie.Need-two-requires
-two-requires c κs = search needs
+two-requires c κs = record { first = omega arith; second = omega arith }
 
 after-two : (c : tie.Joined3) → Tail 4 (start (c .before)) (c .if3 .s)
 after-two c =
@@ -80,16 +80,16 @@ after-two c =
     ]
 
 mul-i-2 : tie.Need-mul-i-2
-mul-i-2 c = search needs
+mul-i-2 c = omega arith
 
 behind-requires-3 : tie.Need-behind-requires-3
-behind-requires-3 c κs = search needs
+behind-requires-3 c κs = omega arith
 
 behind-requires-4 : tie.Need-behind-requires-4
-behind-requires-4 c κs = search needs
+behind-requires-4 c κs = omega arith
 
 four-requires : tie.Need-four-requires
-four-requires c κs = search needs
+four-requires c κs = record { first = omega arith; second = omega arith }
 
 after-four : (c : tie.Joined4) → Tail 8 (start (c .before .before)) (c .if4 .s)
 after-four c =
@@ -100,16 +100,16 @@ after-four c =
     ]
 
 mul-i-3 : tie.Need-mul-i-3
-mul-i-3 c = search needs
+mul-i-3 c = omega arith
 
 behind-requires-5 : tie.Need-behind-requires-5
-behind-requires-5 c κs = search needs
+behind-requires-5 c κs = omega arith
 
 behind-requires-6 : tie.Need-behind-requires-6
-behind-requires-6 c κs = search needs
+behind-requires-6 c κs = omega arith
 
 eight-requires : tie.Need-eight-requires
-eight-requires c κs = search needs
+eight-requires c κs = record { first = omega arith; second = omega arith }
 
 after-eight : (c : tie.Joined5) → Tail 16 (start (c .before .before .before)) (c .if5 .s)
 after-eight c =
@@ -120,16 +120,16 @@ after-eight c =
     ]
 
 mul-i-4 : tie.Need-mul-i-4
-mul-i-4 c = search needs
+mul-i-4 c = omega arith
 
 behind-requires-7 : tie.Need-behind-requires-7
-behind-requires-7 c κs = search needs
+behind-requires-7 c κs = omega arith
 
 behind-requires-8 : tie.Need-behind-requires-8
-behind-requires-8 c κs = search needs
+behind-requires-8 c κs = omega arith
 
 sixteen-requires : tie.Need-sixteen-requires
-sixteen-requires c κs = search needs
+sixteen-requires c κs = record { first = omega arith; second = omega arith }
 
 after-sixteen : (c : tie.Joined6) → Tail 32 (start (c .before .before .before .before)) (c .if6 .s)
 after-sixteen c =
@@ -140,16 +140,16 @@ after-sixteen c =
     ]
 
 mul-i-5 : tie.Need-mul-i-5
-mul-i-5 c = search needs
+mul-i-5 c = omega arith
 
 behind-requires-9 : tie.Need-behind-requires-9
-behind-requires-9 c κs = search needs
+behind-requires-9 c κs = omega arith
 
 behind-requires-10 : tie.Need-behind-requires-10
-behind-requires-10 c κs = search needs
+behind-requires-10 c κs = omega arith
 
 thirty-two-requires : tie.Need-thirty-two-requires
-thirty-two-requires c κs = search needs
+thirty-two-requires c κs = record { first = omega arith; second = omega arith }
 
 returns-2 : tie.Need-returns-2
 returns-2 c =
