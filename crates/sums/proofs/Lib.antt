@@ -1,3 +1,4 @@
+pub mod Neutral
 pub mod Count
 pub mod Apart
 pub mod Steps

@@ -16,7 +16,7 @@ use Rattle.sums.specs.Sum.{Sum, total}
 use Rattle.sums.specs.Dot.{Lengths, products, nextRow, inPairs, dotOf}
 use Rattle.sums.specs.Value.{Behind, blockOf, minusZero, sumOf, behindLast}
 use Rattle.sums.proofs.Rows.{twice, steady, cut, length-products, drop-products}
-use Rattle.units.proofs.Neutral.{add-minus-zero}
+use Rattle.sums.proofs.Neutral.{add-minus-zero}
 
 -- ---- a block
 -- from its two halves
