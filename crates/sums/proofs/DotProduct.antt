@@ -12,7 +12,7 @@ use Rattle.units.specs.Answers.{Ends, floatBits}
 use Rattle.units.proofs.Answers.{written, untouched}
 use Rattle.units.proofs.Ranges.{zero-units}
 use Rattle.sums.specs.Sum.{Intermediates, above, below, size, apart, NearSum}
-use Rattle.sums.specs.Dot.{Lengths, Elements, Accepts, Dot, products, dotSum, dotOf, levels, sumOver}
+use Rattle.sums.specs.Dot.{Lengths, Elements, Accepts, Dot, products, dotSum, dotOf, levels, mostRoundings, sumOver}
 use Rattle.sums.proofs.Count.{Factors, added, one, roundings}
 use Rattle.sums.proofs.Trees.{intermediates, last-finite, total-number, finite-factors, factors, tree-near, near-more}
 use Rattle.sums.proofs.Rows.{added-pairs, added-products, rounded-pairs, rounded-products, steady, length-products}
@@ -26,12 +26,13 @@ module _ (a b : List Float) (l : Lengths a b) where
   added-dot f = added-pairs f 16 (products a b) (le-trans (le-of-eq (length-products a b (l .same))) (l .most)) ∙ added-products f a b
 
   -- none goes through more roundings than there are levels, and its own
-  rounded-dot : roundings (dotSum a b) ≤ levels (length a) + 1
+  rounded-dot : roundings (dotSum a b) ≤ mostRoundings (length a)
   rounded-dot =
       let n = length-products a b (l .same) in
       let h = levels (length a) in
       let e = steady 16 h (products a b) (least (length a) 16 (l .most)) (le-trans (le-of-eq n) (enough (length a))) in
-      rw e (rounded-pairs h 1 (products a b) (rounded-products a b))
+      let r = rounded-pairs h 1 (products a b) (rounded-products a b) in
+      rw e (omega arith)
 
   factors-dot : Fits a → Fits b → Elements a b → Factors (dotSum a b)
   factors-dot p q e = factors (dotSum a b) (added-dot _ ∙ number-elements a b p q e)
@@ -40,11 +41,11 @@ module _ (a b : List Float) (l : Lengths a b) where
   finite-dot f = finite-elements a b (l .same) (rw (added-dot _) at (finite-factors (dotSum a b) f))
 
   -- so the law of sums is the bound
-  dot-near : Fits a → Fits b → Elements a b → Intermediates (dotSum a b) → NearSum (levels (length a) + 1) (length a) (dotOf a b) (sumOver above a b) (sumOver below a b) (sumOver size a b)
+  dot-near : Fits a → Fits b → Elements a b → Intermediates (dotSum a b) → NearSum (mostRoundings (length a)) (length a) (dotOf a b) (sumOver above a b) (sumOver below a b) (sumOver size a b)
   dot-near p q e i =
       let h = least (length a) 16 (l .most) in
       rw (added-dot one ∙ as-many a b (l .same), added-dot above, added-dot below, added-dot size) at
-      (tree-near (dotSum a b) (levels (length a) + 1) (factors-dot p q e) i rounded-dot (omega arith))
+      (tree-near (dotSum a b) (mostRoundings (length a)) (factors-dot p q e) i rounded-dot (omega arith))
 
 -- ---- success: the result is finite, and with it everything before
 promised : (a b : List Float) → Fits a → Fits b → Lengths a b → T (finite (dotOf a b)) → Dot a b 0 (dotOf a b)
@@ -100,7 +101,7 @@ module _ (a b : List Float) {before : ℕ} where
 pub as-asked : (a b : List Float) (code : ℕ) (r : Float) → Dot a b code r → Accepts a b → NearSum (length a) (length a) r (sumOver above a b) (sumOver below a b) (sumOver size a b)
 unfolding sumOver apart
 as-asked [] b code r d h = rw (d .empty h refl, zero-units .0, zero-units .1) (le-of-eq refl)
-as-asked (x ∷ a) b code r d h = near-more (levels n + 1) n n r (sumOver above (x ∷ a) b) (sumOver below (x ∷ a) b) (sumOver size (x ∷ a) b) (no-more n (omega arith)) (d .near h)
+as-asked (x ∷ a) b code r d h = near-more (mostRoundings n) n n r (sumOver above (x ∷ a) b) (sumOver below (x ∷ a) b) (sumOver size (x ∷ a) b) (no-more n (omega arith)) (d .near h)
   where
     n : ℕ
     n = length (x ∷ a)

@@ -71,6 +71,10 @@ sumOver f (x ∷ xs) (y ∷ ys) = f x y + sumOver f xs ys
 abbrev pub levels : ℕ → ℕ
 levels n = ieee.size (n - 1)
 
+-- roundings that a product goes through at most: one for each level, and its own
+abbrev pub mostRoundings : ℕ → ℕ
+mostRoundings n = levels n + 1
+
 -- the whole promise of a and b, answered by a code and the result r
 pub record Dot (a b : List Float) (code : ℕ) (r : Float) : Type 0 where
   -- code 2, BAD_LENGTH, for lists of different length or of more than 65,536 elements
@@ -86,6 +90,6 @@ pub record Dot (a b : List Float) (code : ℕ) (r : Float) : Type 0 where
   pub value : Accepts a b → r ≡ dotOf a b
   pub finite : Accepts a b → Number r
   -- |r - exact| ≤ G (sum of |a_i b_i|) + n 2 ^ -149 with G = (h + 1) u / (1 - (h + 1) u), h the number of levels
-  pub near : Accepts a b → NearSum (levels (length a) + 1) (length a) r (sumOver above a b) (sumOver below a b) (sumOver size a b)
+  pub near : Accepts a b → NearSum (mostRoundings (length a)) (length a) r (sumOver above a b) (sumOver below a b) (sumOver size a b)
   -- +0 for n = 0
   pub empty : Accepts a b → length a ≡ 0 → r ≡ ofBits binary32 0
