@@ -12,6 +12,7 @@
 #include "dots.h"
 #include "earmath.h"
 #include "exact.h"
+#include "hardest.h"
 #include "judge.h"
 #include "report.h"
 
@@ -50,7 +51,7 @@ static const struct kind {
     {"cancellation: tiny", 40, 30, true},
 };
 
-enum { KINDS = sizeof kinds / sizeof kinds[0], LISTS = 4000, MOST_LEVELS = 16 };
+enum { KINDS = sizeof kinds / sizeof kinds[0], LISTS = 4000 };
 
 /* Every second product is the one before with the other sign, but for the last
  * digit of a factor. */
@@ -148,42 +149,7 @@ static void of_every_length(void)
     report_lists("every n up to 1,100, and about larger powers of two", &t);
 }
 
-/* ---- lists whose errors add up */
-/* Factors whose product lies as closely as a search finds below the middle of
- * 1 + m 2^-23 and the next float, so that it is rounded down by nearly half a step. */
-static void factors_below(uint32_t m, float *x, float *y)
-{
-    double middle = 1 + (m + 0.5) * 0x1p-23, best = 0;
-    for (int i = 0; i < 20000; i++) {
-        float first = 1 + (float)(draw() >> 9) * 0x1p-23f, second = (float)(middle / first);
-        double product = (double)first * second;
-        if (product < middle && product > best) {
-            best = product;
-            *x = first;
-            *y = second;
-        }
-    }
-}
-
-/* 2^levels products whose sum in pairs is 2^levels (1 + m 2^-23): for an even m its halves have m and m + 1, which
- * is a tie and goes down to m; for an odd one m - 1 and m + 1, which is exact. So in every second sum that can
- * round, and in every product, the most is lost that can be, all to one side. */
-static void hardest(float *x, float *y, int levels, uint32_t m)
-{
-    static float found[MOST_LEVELS + 2][2];
-    if (levels == 0) {
-        if (found[m][0] == 0)
-            factors_below(m, &found[m][0], &found[m][1]);
-        *x = found[m][0];
-        *y = found[m][1];
-        return;
-    }
-    size_t half = (size_t)1 << (levels - 1);
-    hardest(x, y, levels - 1, m - m % 2);
-    hardest(x + half, y + half, levels - 1, m + 1);
-}
-
-/* The bound is nearly reached for two products, and two thirds of it for any number of levels. */
+/* Lists whose errors add up: the bound is nearly reached for two products, and two thirds of it for any number of levels. */
 static void of_hardest_lists(void)
 {
     uint64_t seen = 0;
@@ -192,7 +158,7 @@ static void of_hardest_lists(void)
     for (int levels = 0; levels <= MOST_LEVELS; levels++) {
         struct dot_tally t = {0};
         size_t n = (size_t)1 << levels;
-        hardest(a, b, levels, 0);
+        hardest(a, b, levels);
         judge_dot(&t, ear_dot, a, n, b, n);
         seen += faults(&t);
         least = fmin(least, t.worst);
