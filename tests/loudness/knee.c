@@ -84,7 +84,7 @@ static void refusals(void)
 /* What ear_loudness answered before there was a knee, as one number: channels and
  * envelope values drawn, one in four of any pattern. */
 enum { DRAWN = 1000000 };
-static const uint64_t answers_before = 0x0;
+static const uint64_t answers_before = 0x4cf96668231b1710;
 
 static uint32_t state = 2463534242;
 
