@@ -33,7 +33,7 @@ fn root_bits(x: f32) -> u32
     let p = fixed::apart(x);
     let m = p.m;
     let e = p.e;
-    let n = fixed::shifted(m, 23 + e % 2);
+    let n = ((m << (e % 2)) as u64) * 8388608;
     let s = settle_root(n, guess::root(m, e));
     (e / 2 + 51) * 8388608 + s
 }
