@@ -1,17 +1,21 @@
 /*
  * The dot product beside the same loop in C: one running sum, as the compiler
  * has to keep it. A filter's work: the window of n taps moves along a signal,
- * a sample for each call. Both take turns in every round, and the best round
+ * a sample for each call. All take turns in every round, and the best round
  * counts. The C loop tests nothing; ours tests lengths and finiteness.
+ *
+ * The nearest float of the exact sum stands beside a sum in C that carries its
+ * rounding errors along (Ogita, Rump, Oishi: Dot2) and judges the elements too.
  */
 #include <math.h>
+#include <stdbool.h>
 #include <stdint.h>
 #include <stdio.h>
 
 #include "clock.h"
 #include "earmath.h"
 
-enum { LONGEST = 1024, SAMPLES = 1024, ROUNDS = 400, OURS = 0, PLAIN, CONTESTANTS };
+enum { LONGEST = 1024, SAMPLES = 1024, ROUNDS = 400, OURS = 0, PLAIN, NEAREST, CARRYING, CONTESTANTS };
 
 static float taps[LONGEST], signal[SAMPLES + LONGEST], output[SAMPLES];
 
@@ -22,6 +26,36 @@ __attribute__((noinline)) float plain_loop(const float *a, const float *b, size_
     for (size_t i = 0; i < n; i++)
         s += a[i] * b[i];
     return s;
+}
+
+/* x * y - p exactly, where p is the rounded product: both are split into halves of 12 digits. */
+static float lost_by_product(float x, float y, float p)
+{
+    float t = 4097 * x, x1 = t - (t - x), x2 = x - x1;
+    t = 4097 * y;
+    float y1 = t - (t - y), y2 = y - y1;
+    return x2 * y2 - (p - x1 * y1 - x2 * y1 - x1 * y2);
+}
+
+static bool judged(const float *a, size_t n)
+{
+    for (size_t i = 0; i < n; i++)
+        if (!(a[i] == 0 || (fabsf(a[i]) >= 0x1p-40f && fabsf(a[i]) <= 0x1p40f)))
+            return false;
+    return true;
+}
+
+__attribute__((noinline)) float carrying_loop(const float *a, const float *b, size_t n)
+{
+    float s = 0, c = 0;
+    if (!judged(a, n) || !judged(b, n))
+        return NAN;
+    for (size_t i = 0; i < n; i++) {
+        float p = a[i] * b[i], q = s + p, z = q - s;
+        c += (s - (q - z)) + (p - z) + lost_by_product(a[i], b[i], p);
+        s = q;
+    }
+    return s + c;
 }
 
 static void ours(size_t n)
@@ -36,7 +70,19 @@ static void plain(size_t n)
         output[i] = plain_loop(taps, signal + i, n);
 }
 
-static void (*const loops[CONTESTANTS])(size_t n) = {ours, plain};
+static void nearest(size_t n)
+{
+    for (size_t i = 0; i < SAMPLES; i++)
+        ear_dot_nearest(taps, n, signal + i, n, &output[i]);
+}
+
+static void carrying(size_t n)
+{
+    for (size_t i = 0; i < SAMPLES; i++)
+        output[i] = carrying_loop(taps, signal + i, n);
+}
+
+static void (*const loops[CONTESTANTS])(size_t n) = {ours, plain, nearest, carrying};
 
 /* Sizes near 1, so that no sum overflows and none is slowed by subnormals. */
 static void fill(float *list, size_t n)
@@ -50,7 +96,7 @@ static void fill(float *list, size_t n)
 
 static void contest(size_t n)
 {
-    double best[CONTESTANTS] = {INFINITY, INFINITY};
+    double best[CONTESTANTS] = {INFINITY, INFINITY, INFINITY, INFINITY};
     for (int round = 0; round < ROUNDS; round++)
         for (int who = 0; who < CONTESTANTS; who++) {
             double start = now();
@@ -59,6 +105,7 @@ static void contest(size_t n)
             best[who] = each < best[who] ? each : best[who];
         }
     printf("dot product, n = %-5zu %10.1f %10.1f %10.2f\n", n, best[OURS], best[PLAIN], best[PLAIN] / best[OURS]);
+    printf("nearest, n = %-9zu %10.1f %10.1f %10.2f\n", n, best[NEAREST], best[CARRYING], best[CARRYING] / best[NEAREST]);
 }
 
 int main(void)

@@ -153,6 +153,7 @@ const struct asked every_function[] = {
     /* name, how it is asked, call, codes, its share of the patterns, whether it rounds */
     {"ear_dot", ask_dot, {.dot = ear_dot},
      1 << EAR_OK | 1 << EAR_OUT_OF_RANGE | 1 << EAR_BAD_LENGTH | 1 << EAR_OVERFLOW, 16, true},
+    {"ear_dot_nearest", ask_dot, {.dot = ear_dot_nearest}, 1 << EAR_OK | 1 << EAR_OUT_OF_RANGE | 1 << EAR_BAD_LENGTH, 16, false},
     {"ear_softmax2", ask_softmax, {.softmax = ear_softmax2},
      1 << EAR_OK | 1 << EAR_OUT_OF_RANGE | 1 << EAR_BAD_LENGTH, 16, false},
     {"ear_loudness", ask_map, {.map = ear_loudness}, 1 << EAR_OK | 1 << EAR_OUT_OF_RANGE | 1 << EAR_BAD_CHANNEL, 1, false},

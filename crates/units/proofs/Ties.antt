@@ -116,14 +116,11 @@ module _ (h K r u q : ℕ) (small : r < K) where
           record { half = rw (g, v) (omega arith); tie-up = λ e. absurd (omega arith); tie-down = λ e. absurd (omega arith) }
 
 -- s says whether r is 0
-abbrev pub Sticky : ℕ → ℕ → Type 0
-Sticky r s = ((r ≡ 0) × (s ≡ 0)) ⊎ ((0 < r) × (s ≡ 1))
-
-pub sticky : (h K r s u : ℕ) → 0 < u → r < K → Sticky r s → closest (h * K + r) (2 * u * K) ≡ closest (2 * h + s) (4 * u)
+pub sticky : (h K r s u : ℕ) → 0 < u → r < K → ((r ≡ 0) × (s ≡ 0)) ⊎ ((0 < r) × (s ≡ 1)) → closest (h * K + r) (2 * u * K) ≡ closest (2 * h + s) (4 * u)
 sticky h K r s u pos small w =
     sym (closest-only (h * K + r) (2 * u * K) (closest (2 * h + s) (4 * u)) (mul-pos {m = 2 * u} (omega arith) (lt-of-le-of-lt zero-le small)) (scaled w (closest-is (2 * h + s) (4 * u) (omega arith))))
   where
-    scaled : {q : ℕ} → Sticky r s → Closest (2 * h + s) (4 * u) q → Closest (h * K + r) (2 * u * K) q
+    scaled : {q : ℕ} → ((r ≡ 0) × (s ≡ 0)) ⊎ ((0 < r) × (s ≡ 1)) → Closest (2 * h + s) (4 * u) q → Closest (h * K + r) (2 * u * K) q
     scaled {q} (inl (e, z)) c = exactly h K r u q small e (subst (λ (i : ℕ). Closest (2 * h + i) (4 * u) q) z c)
     scaled {q} (inr (e, z)) c = between h K r u q small e (subst (λ (i : ℕ). Closest (2 * h + i) (4 * u) q) z c)
 

@@ -1,0 +1,5 @@
+pub mod Bins
+pub mod Patterns
+pub mod Rounding
+pub mod Gathering
+pub mod Promise

@@ -1,0 +1,179 @@
+-- `exactsums::gather` meets its contract. The loop's invariant: the elements passed are accepted, and what is in the bins and what is to come are the whole sum. Assumes nothing.
+use mathlib.Core.Path.{_≡_, refl, sym, ap, _∙_}
+use mathlib.Core.List.{List}
+use mathlib.Core.Bool.{Bool, true, false, true≢false}
+use mathlib.Core.Logic.{inl, inr}
+use Prim.Native.Nat.{ℕ, _+_, _-_, _*_, _^_, _≤_, _<_, zero-le}
+use native.Mathlib.Nat.{lt-of-lt-of-le, le-of-eq, le-trans}
+use native.Mathlib.Numerals.{add-one}
+use native.Mathlib.Omega.{arith}
+use lib.Dec.{T}
+use lib.ListN.{length, getD, drop}
+use lib.Ieee.{Float, nan, binary32, fits}
+use borrow.Author.Needs.{needs, scaled-fits}
+use borrow.Author.Tests.{not-true, not-false}
+use Rattle.units.specs.Tests.{Tells}
+use Rattle.units.specs.Answers.{floatBits}
+use Rattle.units.proofs.Naturals.{le-or-lt}
+use Rattle.sums.specs.Sum.{above, below}
+use Rattle.sums.specs.Dot.{sumOver}
+use Rattle.exactsums.specs.Nearest.{Element, Elements, positives, negatives}
+use Rattle.exactsums.specs.Work.{number, Small, Given}
+use Rattle.exactsums.proofs.Gathering.{next-product, no-product, one-further, empty-small, empty-sum, whole-sum, small-most}
+use Rattle.exactsums.proofs.gather.Statement.{statement}
+use Rattle.exactsums.proofs.gather.Tie as tie
+
+-- the elements before the place i
+abbrev Passed : List Float → ℕ → Type 0
+Passed a i = (k : ℕ) → k < i → Element (getD a k nan)
+
+abbrev Inv-loop : tie.InvT-loop
+Inv-loop a b bins₀ n i₀ bins i =
+    (i ≤ lib.ListN.length a) × Small i bins × Passed a i × Passed b i × (number bins 0 41 * 2 ^ 172 + sumOver above (drop i a) (drop i b) ≡ positives a b) × (number bins 41 41 * 2 ^ 172 + sumOver below (drop i a) (drop i b) ≡ negatives a b)
+
+abbrev μ-loop : tie.MeasureT-loop
+μ-loop a b bins₀ n i₀ bins i = lib.ListN.length a - i
+
+loop-holds : tie.Need-loop-holds Inv-loop μ-loop
+loop-holds c =
+    let s = c .before .before in
+    let h = s .pre .1 .1 in
+    (zero-le, empty-small (s .args .bins .now) h, λ k l. absurd (omega arith), λ k l. absurd (omega arith), empty-sum (s .args .bins .now) 0 (positives (s .args .a .now) (s .args .b .now)) h, empty-sum (s .args .bins .now) 41 (negatives (s .args .a .now) (s .args .b .now)) h)
+
+-- ---- a turn: the lists, the place, and the elements there
+abbrev first : tie.In-loop Inv-loop μ-loop → List Float
+first c = c .before .before .before .before .args .a .now
+
+abbrev second : tie.In-loop Inv-loop μ-loop → List Float
+second c = c .before .before .before .before .args .b .now
+
+abbrev place : tie.In-loop Inv-loop μ-loop → ℕ
+place c = c .before .loop .i
+
+in-second : (c : tie.In-loop Inv-loop μ-loop) → place c < length (second c)
+in-second c = lt-of-lt-of-le (c .loop-test .taken) (le-of-eq (c .before .before .before .before .pre .0))
+
+first-fits : (c : tie.In-loop Inv-loop μ-loop) → T (fits binary32 (getD (first c) (place c) nan))
+first-fits c = c .before .before .before .shared-slice-known .given (place c)
+
+second-fits : (c : tie.In-loop Inv-loop μ-loop) → T (fits binary32 (getD (second c) (place c) nan))
+second-fits c = c .before .before .shared-slice-known2 .given (place c)
+
+mul-bits-of : tie.Need-mul-bits-of Inv-loop μ-loop
+mul-bits-of c = scaled-fits (place c) (length (first c)) 4 (c .loop-test .taken) (c .before .before .before .before .good .0 .1)
+
+shared-slice-read-bits-of : tie.Need-shared-slice-read-bits-of Inv-loop μ-loop
+shared-slice-read-bits-of c = c .before .loop-test .taken
+
+bits-of-requires : tie.Need-bits-of-requires Inv-loop μ-loop
+bits-of-requires c κs = tt
+
+mul-bits-of-2 : tie.Need-mul-bits-of-2 Inv-loop μ-loop
+mul-bits-of-2 c = let l = c .before .before in scaled-fits (place l) (length (second l)) 4 (in-second l) (l .before .before .before .before .good .1 .0 .1)
+
+shared-slice-read-bits-of-2 : tie.Need-shared-slice-read-bits-of-2 Inv-loop μ-loop
+shared-slice-read-bits-of-2 c = in-second (c .before .before .before)
+
+bits-of-requires-2 : tie.Need-bits-of-requires-2 Inv-loop μ-loop
+bits-of-requires-2 c κs = tt
+
+accepted-requires : tie.Need-accepted-requires Inv-loop μ-loop
+accepted-requires c κs = tt
+
+-- what the tests tell
+first-tells : (c : tie.After-accepted Inv-loop μ-loop) → Tells (Element (getD (first (c .before .before .before .before .before)) (place (c .before .before .before .before .before)) nan)) (c .accepted .result)
+first-tells c = let l = c .before .before .before .before .before in c .accepted .ensures .tells (getD (first l) (place l) nan) (first-fits l) (c .before .before .before .bits-of .ensures)
+
+second-tells : (c : tie.After-accepted2 Inv-loop μ-loop) → Tells (Element (getD (second (c .before .before .before .before .before .before .before)) (place (c .before .before .before .before .before .before .before)) nan)) (c .accepted2 .result)
+second-tells c = let l = c .before .before .before .before .before .before .before in c .accepted2 .ensures .tells (getD (second l) (place l) nan) (second-fits l) (c .before .before .before .bits-of2 .ensures)
+
+returns : tie.Need-returns Inv-loop μ-loop
+returns c =
+    let l = c .before .before .before .before .before .before in
+    record { if-true = λ e. absurd (true≢false (sym e)); if-false = λ e r. first-tells (c .before) .if-false (not-true (c .before .accepted .result) (c .if1 .taken)) (r .first (place l) (l .loop-test .taken)) }
+
+accepted-requires-2 : tie.Need-accepted-requires-2 Inv-loop μ-loop
+accepted-requires-2 c κs = tt
+
+returns-2 : tie.Need-returns-2 Inv-loop μ-loop
+returns-2 c =
+    let l = c .before .before .before .before .before .before .before .before in
+    record { if-true = λ e. absurd (true≢false (sym e)); if-false = λ e r. second-tells (c .before) .if-false (not-true (c .before .accepted2 .result) (c .if2 .taken)) (r .second (place l) (in-second l)) }
+
+-- both are accepted
+first-is : (c : tie.Else2 Inv-loop μ-loop) → Element (getD (first (c .before .before .before .before .before .before .before .before)) (place (c .before .before .before .before .before .before .before .before)) nan)
+first-is c = first-tells (c .before .before .before) .if-true (not-false (c .before .before .before .accepted .result) (c .before .before .if1 .left))
+
+second-is : (c : tie.Else2 Inv-loop μ-loop) → Element (getD (second (c .before .before .before .before .before .before .before .before)) (place (c .before .before .before .before .before .before .before .before)) nan)
+second-is c = second-tells (c .before) .if-true (not-false (c .before .accepted2 .result) (c .if2 .left))
+
+add-requires : tie.Need-add-requires Inv-loop μ-loop
+add-requires c κs =
+    let e = c .before in
+    let l = e .before .before .before .before .before .before .before .before in
+    let a = e .before .before .before in
+    (record { float = getD (first l) (place l) nan; element = first-is e; bits = a .before .before .before .bits-of .ensures },
+     (record { float = getD (second l) (place l) nan; element = second-is e; bits = a .before .bits-of2 .ensures },
+      small-most (place l) 4095 (l .before .loop .bins) (upto (l .loop-test .taken) (l .before .before .before .before .pre .1 .0)) (l .before .loop .inv .1 .0)))
+  where
+    upto : {i n : ℕ} → i < n → n ≤ 4096 → i ≤ 4095
+    upto h m = omega arith
+
+add-i : tie.Need-add-i Inv-loop μ-loop
+add-i c = let l = c .before .before .before .before .before .before .before .before .before .before in omega (arith, l .loop-test .taken)
+
+loop-less : tie.Need-loop-less Inv-loop μ-loop
+loop-less c = let l = c .before .before .before .before .before .before .before .before .before .before in omega (arith, l .loop-test .taken)
+
+-- one element more
+passed-more : (a : List Float) (i : ℕ) → Passed a i → Element (getD a i nan) → Passed a (i + 1)
+passed-more a i h e k l = elim (le-or-lt i k) [ inl m ↦ let f : k ≡ i = omega arith in rw f e | inr m ↦ h k m ]
+
+loop-again : tie.Need-loop-again Inv-loop μ-loop
+loop-again c =
+    let e = c .before .before in
+    let l = e .before .before .before .before .before .before .before .before in
+    let a = first l in
+    let b = second l in
+    let i = place l in
+    let v = l .before .loop .inv in
+    let bins = l .before .loop .bins in
+    let after = c .add .last .1 .1 .0 in
+    let x = getD a i nan in
+    let y = getD b i nan in
+    let t = e .before .before .before in
+    let p = c .add .ensures .plus x y (first-is e) (second-is e) (t .before .before .before .bits-of .ensures) (t .before .bits-of2 .ensures) in
+    let m = c .add .ensures .minus x y (first-is e) (second-is e) (t .before .before .before .bits-of .ensures) (t .before .bits-of2 .ensures) in (
+      up (l .loop-test .taken),
+      rw (add-one i) (c .add .ensures .small i (v .1 .0)),
+      passed-more a i (v .1 .1 .0) (first-is e),
+      passed-more b i (v .1 .1 .1 .0) (second-is e),
+      rw p (one-further (number bins 0 41 * 2 ^ 172) (sumOver above (drop i a) (drop i b)) (sumOver above (drop (i + 1) a) (drop (i + 1) b)) (above x y) (positives a b) (v .1 .1 .1 .1 .0) (next-product above a b i (l .loop-test .taken) (in-second l))),
+      rw m (one-further (number bins 41 41 * 2 ^ 172) (sumOver below (drop i a) (drop i b)) (sumOver below (drop (i + 1) a) (drop (i + 1) b)) (below x y) (negatives a b) (v .1 .1 .1 .1 .1) (next-product below a b i (l .loop-test .taken) (in-second l))),
+    )
+  where
+    up : {i n : ℕ} → i < n → i + 1 ≤ n
+    up h = omega arith
+
+returns-3 : tie.Need-returns-3 Inv-loop μ-loop
+returns-3 c =
+    let s = c .before .before .before .before in
+    let a = s .args .a .now in
+    let b = s .args .b .now in
+    let i = c .before .loop .i in
+    let v = c .before .loop .inv in
+    let bins = c .before .loop .bins in
+    record {
+      if-true = λ e. record {
+        elements = record { first = λ k l. v .1 .1 .0 k (lt-of-lt-of-le l (c .loop-test .left)); second = λ k l. v .1 .1 .1 .0 k (lt-of-lt-of-le (lt-of-lt-of-le l (le-of-eq (sym (s .pre .0)))) (c .loop-test .left)) };
+        plus = whole-sum (number bins 0 41 * 2 ^ 172) (sumOver above (drop i a) (drop i b)) (positives a b) (v .1 .1 .1 .1 .0) (no-product above a b i (c .loop-test .left));
+        minus = whole-sum (number bins 41 41 * 2 ^ 172) (sumOver below (drop i a) (drop i b)) (negatives a b) (v .1 .1 .1 .1 .1) (no-product below a b i (c .loop-test .left));
+        small = small-most i 4096 bins (le-trans (v .0) (s .pre .1 .0)) (v .1 .0);
+      };
+      if-false = λ e. absurd (true≢false e);
+    }
+
+pub gather-spec : {M : Type 1} → statement M
+gather-spec =
+    tie.close
+    (tie.spec Inv-loop μ-loop loop-holds mul-bits-of shared-slice-read-bits-of bits-of-requires mul-bits-of-2 shared-slice-read-bits-of-2 bits-of-requires-2 accepted-requires returns accepted-requires-2 returns-2 add-requires add-i loop-less loop-again returns-3)
