@@ -10,7 +10,7 @@ use lib.ListN.{length, getD, set, length-set}
 use lib.Seq.{getD-set-same, getD-set-other}
 use lib.Pow.{pow-add, pow-pos, pow-mono}
 use Rattle.units.proofs.Naturals.{le-or-lt}
-use Rattle.exactsums.specs.Work.{Exponent, IsProduct, number, Digits, Small, Empty}
+use Rattle.exactsums.specs.Work.{Exponent, IsProduct, number, Digits, Small}
 
 -- one place more
 pub number-next : (ds : List ℕ) (s n : ℕ) → number ds s (n + 1) ≡ number ds s n + getD ds (s + n) 0 * 16 ^ n
@@ -98,12 +98,6 @@ number-most ds s (suc n) b h = rw (pow-suc 16 n) (sum (16 ^ n) (number-most ds s
   where
     sum : {x y : ℕ} (w : ℕ) → x ≤ b * w → y ≤ b * w → x + y ≤ b * (w * 16)
     sum w k l = omega arith
-
--- of empty bins it is 0
-pub number-empty : (ds : List ℕ) (s n : ℕ) → Empty ds → number ds s n ≡ 0
-unfolding number
-number-empty ds s zero h = refl
-number-empty ds s (suc n) h = ap₂ (λ (x y : ℕ). x + y * 16 ^ n) (number-empty ds s n h) (h .each (s + n)) ∙ zero-add (0 * 16 ^ n) ∙ zero-mul (16 ^ n)
 
 -- ---- whether a number is 0: with one digit more
 pub sticky-next : (x d w t : ℕ) → 0 < w → ((x ≡ 0) × (t ≡ 0)) ⊎ ((0 < x) × (0 < t)) → ((x + d * w ≡ 0) × (t + d ≡ 0)) ⊎ ((0 < x + d * w) × (0 < t + d))

@@ -2,19 +2,20 @@
 use mathlib.Core.Path.{_≡_, refl, sym, ap, _∙_}
 use mathlib.Core.Logic.{_⊎_, inl, inr}
 use mathlib.Core.List.{List, [], _∷_}
-use Prim.Native.Nat.{ℕ, suc, _+_, _*_, _/_, _%_, _^_, _≤_, _<_}
-use native.Mathlib.Nat.{le-of-eq, le-trans, zero-add, zero-mul, mul-le-mul-right}
+use Prim.Native.Nat.{ℕ, suc, _+_, _*_, _/_, _%_, _^_, _≤_, _<_, zero-le}
+use native.Mathlib.Nat.{le-of-eq, le-trans, lt-of-lt-of-le, mul-le-mul-right}
 use native.Mathlib.Numerals.{add-one}
 use native.Mathlib.Omega.{arith}
 use lib.ListN.{length, getD, set, drop, drop-of-length-le}
 use lib.Seq.{drop-cons}
 use lib.Ieee.{Float, nan}
 use Rattle.units.specs.Answers.{floatBits}
+use Rattle.units.proofs.Naturals.{le-or-lt}
 use Rattle.sums.specs.Sum.{above, below}
 use Rattle.sums.specs.Dot.{sumOver}
-use Rattle.exactsums.specs.Nearest.{Element}
-use Rattle.exactsums.specs.Work.{Exponent, IsProduct, number, Small, Empty, Added}
-use Rattle.exactsums.proofs.Bins.{number-empty, small-more, small-set}
+use Rattle.exactsums.specs.Nearest.{Element, positives, negatives}
+use Rattle.exactsums.specs.Work.{Exponent, IsProduct, number, Small, Level, Added, Gathered}
+use Rattle.exactsums.proofs.Bins.{small-more, small-set}
 use Rattle.exactsums.proofs.Patterns.{none-of, adds-nothing, adds-one}
 
 -- ---- what `add` does
@@ -54,20 +55,63 @@ module _ (f : Float → Float → ℕ) (a b : List Float) where
   unfolding sumOver
   no-product i l = rw (drop-of-length-le a l)
 
--- x of the sum is in the bins, and y is to come
-pub one-further : (x y z n s : ℕ) → x + y ≡ s → y ≡ n + z → x + n + z ≡ s
-one-further x y z n s e f = omega arith
-
--- ---- the beginning
-pub empty-small : (bins : List ℕ) → Empty bins → Small 0 bins
-empty-small bins h = record { long = h .long; each = λ k. le-of-eq (h .each k ∙ sym (zero-mul (2 ^ 51))) }
-
-pub empty-sum : (bins : List ℕ) (s n : ℕ) → Empty bins → number bins s 41 * 2 ^ 172 + n ≡ n
-empty-sum bins s n h = ap (λ (x : ℕ). x * 2 ^ 172 + n) (number-empty bins s 41 h) ∙ ap (λ (x : ℕ). x + n) (zero-mul (2 ^ 172)) ∙ zero-add n
-
--- and the end
-pub whole-sum : (x y s : ℕ) → x + y ≡ s → y ≡ 0 → x ≡ s
-whole-sum x y s e z = omega arith
+-- ---- on the way: the elements before the place i are accepted, and what is in the bins and what is to come are the whole sum
+pub record Underway (a b : List Float) (bins : List ℕ) (i : ℕ) : Type 0 where
+  pub upto : i ≤ length a
+  pub small : Small (i + 1) bins
+  pub first : (k : ℕ) → k < i → Element (getD a k nan)
+  pub second : (k : ℕ) → k < i → Element (getD b k nan)
+  pub sum : number bins 0 41 * 2 ^ 172 + sumOver above (drop i a) (drop i b) + negatives a b ≡ number bins 41 41 * 2 ^ 172 + sumOver below (drop i a) (drop i b) + positives a b
 
 pub small-most : (t u : ℕ) (bins : List ℕ) → t ≤ u → Small t bins → Small u bins
 small-most t u bins l h = record { long = h .long; each = λ k. le-trans (h .each k) (mul-le-mul-right (2 ^ 51) l) }
+
+-- the beginning
+pub begun : (a b : List Float) (bins : List ℕ) → Level bins → Underway a b bins 0
+begun a b bins h = record {
+  upto = zero-le;
+  small = h .small;
+  first = λ k l. absurd (omega arith);
+  second = λ k l. absurd (omega arith);
+  sum = rw (h .same) (turn (number bins 41 41 * 2 ^ 172) (positives a b) (negatives a b));
+}
+  where
+    turn : (x p n : ℕ) → x + p + n ≡ x + n + p
+    turn x p n = omega arith
+
+-- one pair of elements more
+pub further : (a b : List Float) (bins after : List ℕ) (i x y : ℕ) → Underway a b bins i → i < length a → i < length b → Element (getD a i nan) → Element (getD b i nan)
+    → x ≡ floatBits (getD a i nan) → y ≡ floatBits (getD b i nan) → Added x y bins after → Underway a b after (i + 1)
+further a b bins after i x y h l m r q is js d = record {
+  upto = omega arith;
+  small = rw (add-one (i + 1)) (d .small (i + 1) (h .small));
+  first = passed a (h .first) r;
+  second = passed b (h .second) q;
+  sum = rw (d .plus u w r q is js, d .minus u w r q is js) (moved (number bins 0 41 * 2 ^ 172) (number bins 41 41 * 2 ^ 172) (h .sum) (next-product above a b i l m) (next-product below a b i l m));
+}
+  where
+    u : Float
+    u = getD a i nan
+
+    w : Float
+    w = getD b i nan
+
+    passed : (c : List Float) → ((k : ℕ) → k < i → Element (getD c k nan)) → Element (getD c i nan) → (k : ℕ) → k < i + 1 → Element (getD c k nan)
+    passed c before e k f = elim (le-or-lt i k) [ inl g ↦ let s : k ≡ i = omega arith in rw s e | inr g ↦ before k g ]
+
+    moved : (s t : ℕ) {v z v' z' f g n p : ℕ} → s + v + n ≡ t + z + p → v ≡ f + v' → z ≡ g + z' → s + f + v' + n ≡ t + g + z' + p
+    moved s t e f g = omega arith
+
+-- the end
+pub ended : (a b : List Float) (bins : List ℕ) (i : ℕ) → length a ≡ length b → length a ≤ 4096 → Underway a b bins i → length a ≤ i → Gathered a b bins
+ended a b bins i e m h l = record {
+  elements = record { first = λ k f. h .first k (lt-of-lt-of-le f l); second = λ k f. h .second k (lt-of-lt-of-le f (le-trans (le-of-eq (sym e)) l)) };
+  sum = whole (number bins 0 41 * 2 ^ 172) (number bins 41 41 * 2 ^ 172) (h .sum) (no-product above a b i l) (no-product below a b i l);
+  small = small-most (i + 1) 4097 bins (most (h .upto)) (h .small);
+}
+  where
+    whole : (s t : ℕ) {v z n p : ℕ} → s + v + n ≡ t + z + p → v ≡ 0 → z ≡ 0 → s + n ≡ t + p
+    whole s t f v z = omega arith
+
+    most : i ≤ length a → i + 1 ≤ 4097
+    most u = omega arith

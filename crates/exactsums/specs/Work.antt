@@ -41,15 +41,15 @@ pub record Digits (ds : List ℕ) : Type 0 where
   pub long : length ds ≡ 41
   pub each : (j : ℕ) → getD ds j 0 < 16
 
--- 82 bins, none larger than t products
+-- 82 bins, none larger than t products can be
 pub record Small (t : ℕ) (bins : List ℕ) : Type 0 where
   pub long : length bins ≡ 82
   pub each : (j : ℕ) → getD bins j 0 ≤ t * 2 ^ 51
 
--- 82 bins, empty
-pub record Empty (bins : List ℕ) : Type 0 where
-  pub long : length bins ≡ 82
-  pub each : (j : ℕ) → getD bins j 0 ≡ 0
+-- 82 bins before the first product: both rows are the same number
+pub record Level (bins : List ℕ) : Type 0 where
+  pub small : Small 1 bins
+  pub same : number bins 0 41 ≡ number bins 41 41
 
 -- x is the pattern of an accepted float
 pub record Given (x : ℕ) : Type 0 where
@@ -63,12 +63,11 @@ pub record Added (x y : ℕ) (before after : List ℕ) : Type 0 where
   pub minus : (u w : Float) → Element u → Element w → x ≡ floatBits u → y ≡ floatBits w → number after 41 41 * 2 ^ 172 ≡ number before 41 41 * 2 ^ 172 + below u w
   pub small : (t : ℕ) → Small t before → Small (suc t) after
 
--- all products stand in the bins, in units of 2 ^ -126: 41 bins for the positive ones and 41 for the negative ones
+-- all products stand in the bins: the row of the positive ones less that of the negative ones is the exact sum, in units of 2 ^ -126
 pub record Gathered (a b : List Float) (bins : List ℕ) : Type 0 where
   pub elements : Elements a b
-  pub plus : number bins 0 41 * 2 ^ 172 ≡ positives a b
-  pub minus : number bins 41 41 * 2 ^ 172 ≡ negatives a b
-  pub small : Small 4096 bins
+  pub sum : number bins 0 41 * 2 ^ 172 + negatives a b ≡ number bins 41 41 * 2 ^ 172 + positives a b
+  pub small : Small 4097 bins
 
 -- or an element is refused
 pub record Judged (a b : List Float) (bins : List ℕ) (answer : Bool) : Type 0 where

@@ -6,7 +6,7 @@ ghost use Prim.Native.Nat.{_+_, _*_, _/_, _%_, _≤_, _^_};
 ghost use lib.ListN.{length};
 ghost use Rattle.units.specs.Answers.{Ends, floatBits};
 ghost use Rattle.exactsums.specs.Nearest.{NearestDot, rounded};
-ghost use Rattle.exactsums.specs.Work.{Accepted, Exponent, IsProduct, Given, Added, number, Sticky, Digits, Small, Empty, Judged, Subtracted};
+ghost use Rattle.exactsums.specs.Work.{Accepted, Exponent, IsProduct, Given, Added, number, Sticky, Digits, Small, Level, Judged, Subtracted};
 
 // Is the float with the pattern b 0, or from 2^-40 to 2^40 in size?
 fn accepted(b: u32) -> bool
@@ -40,7 +40,7 @@ fn times(x: u32, y: u32) -> Product
 
 // Adds the product of the floats with the patterns x and y to its bin: those above zero from bin 0 on, those below from bin 41 on.
 fn add(x: u32, y: u32, bins: &mut [u64; 82])
-    requires { ⌜ Given x × Given y × Small 4095 (now bins) ⌝ }
+    requires { ⌜ Given x × Given y × Small 4096 (now bins) ⌝ }
     ensures { λ r. ⌜ Added x y (now (bins .entry)) (now (bins .exit)) ⌝ }
 {
     if x % 2147483648 == 0 {
@@ -56,7 +56,7 @@ fn add(x: u32, y: u32, bins: &mut [u64; 82])
 
 // Adds all products to the bins: 4,096 of less than 2^51 fit. Ends with false at an element that is refused.
 fn gather(a: &[f32], b: &[f32], bins: &mut [u64; 82]) -> bool
-    requires { ⌜ (length (now a) ≡ length (now b)) × (length (now a) ≤ 4096) × Empty (now bins) ⌝ }
+    requires { ⌜ (length (now a) ≡ length (now b)) × (length (now a) ≤ 4096) × Level (now bins) ⌝ }
     ensures { λ r. ⌜ Judged (now (a .entry)) (now (b .entry)) (now (bins .exit)) r ⌝ }
 {
     let n = a.len();
@@ -84,7 +84,7 @@ struct Left {
 
 // One row of the bins less the other, as digits base 16: both rows are carried upward, and what is borrowed counts with the second.
 fn subtract(bins: &[u64; 82], first: usize, second: usize, digits: &mut [u32; 41]) -> Left
-    requires { ⌜ Small 4096 (now bins) × Digits (now digits) × (first ≤ 41) × (second ≤ 41) ⌝ }
+    requires { ⌜ Small 4097 (now bins) × Digits (now digits) × (first ≤ 41) × (second ≤ 41) ⌝ }
     ensures { λ r. ⌜ Subtracted (now (bins .entry)) (now (digits .exit)) first second (r .over) (r .under) ⌝ }
 {
     let mut over = 0;
@@ -133,10 +133,10 @@ fn rounded(top: u64, digits: &[u32; 41]) -> u32
 
 // The pattern of the float nearest to the difference of the rows: of its size, and of its sign.
 fn difference(bins: &[u64; 82]) -> u32
-    requires { ⌜ Small 4096 (now bins) ⌝ }
+    requires { ⌜ Small 4097 (now bins) ⌝ }
     ensures { λ r. ⌜ r ≡ floatBits (rounded (number (now (bins .entry)) 0 41 * 2 ^ 172) (number (now (bins .entry)) 41 41 * 2 ^ 172)) ⌝ }
 {
-    let mut digits = [0u32; 41];
+    let mut digits = [1u32; 41];
     let d = subtract(bins, 0, 41, &mut digits);
     if d.under <= d.over {
         return rounded(d.over - d.under, &digits);
@@ -146,6 +146,7 @@ fn difference(bins: &[u64; 82]) -> u32
 }
 
 // The float nearest to the sum of the products a_i b_i; code 2 or 1 and nothing written where lengths or an element are refused.
+// Each bin starts at 1: only the difference of the rows counts, and an array of zeros would be cleared by a call out of the archive.
 pub fn dot_nearest(a: &[f32], b: &[f32], out: &mut u32) -> u32
     ensures { λ code. ⌜ Ends floatBits (NearestDot (now (a .entry)) (now (b .entry))) code (now (out .entry)) (now (out .exit)) ⌝ }
 {
@@ -155,7 +156,7 @@ pub fn dot_nearest(a: &[f32], b: &[f32], out: &mut u32) -> u32
     if 4096 < a.len() {
         return 2;
     }
-    let mut bins = [0u64; 82];
+    let mut bins = [1u64; 82];
     if !gather(a, b, &mut bins) {
         return 1;
     }

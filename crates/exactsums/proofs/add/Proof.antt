@@ -20,7 +20,7 @@ times-requires : tie.Need-times-requires
 times-requires c κs =
     let s = c .before .before in
     let g = s .pre .0 in
-    let h = s .pre .1 .0 in
+    let h = s .pre .1 in
     (exponent-of (g .float) (g .element) (s .args .x) (g .bits) (c .before .if1 .left), exponent-of (h .float) (h .element) (s .args .y) (h .bits) (c .if2 .left))
 
 add-k : tie.Need-add-k
@@ -49,7 +49,7 @@ bin c =
     (s .args .x / 2147483648 + s .args .y / 2147483648) % 2 * 41 + t .times .result .place
 
 add-bins : tie.Need-add-bins
-add-bins c = omega (arith, c .before .before .before .before .before .before .pre .1 .1 .each (bin c), c .before .before .before .times .ensures .small)
+add-bins c = omega (arith, c .before .before .before .before .before .before .pre .2 .each (bin c), c .before .before .before .times .ensures .small)
 
 mul-bins-2 : tie.Need-mul-bins-2
 mul-bins-2 c = search needs
@@ -61,7 +61,7 @@ returns-3 : tie.Need-returns-3
 returns-3 c =
     let t = c .before .before .before in
     let s = t .before .before .before in
-    added-one (s .args .x) (s .args .y) (s .args .bins .now) (t .times .result .digits) (t .times .result .place) (bin c) (s .pre .1 .1 .long) (t .times .ensures) (t .before .before .if1 .left) (t .before .if2 .left) refl
+    added-one (s .args .x) (s .args .y) (s .args .bins .now) (t .times .result .digits) (t .times .result .place) (bin c) (s .pre .2 .long) (t .times .ensures) (t .before .before .if1 .left) (t .before .if2 .left) refl
 
 pub add-spec : {M : Type 1} → statement M
 add-spec = tie.close (tie.spec returns returns-2 times-requires add-k mul-k cast-k add-k-2 mul-bins element-copy-out-bins add-bins mul-bins-2 element-write-bins returns-3)

@@ -19,26 +19,18 @@ use Rattle.sums.specs.Sum.{above, below}
 use Rattle.sums.specs.Dot.{sumOver}
 use Rattle.exactsums.specs.Nearest.{Element, Elements, positives, negatives}
 use Rattle.exactsums.specs.Work.{number, Small, Given}
-use Rattle.exactsums.proofs.Gathering.{next-product, no-product, one-further, empty-small, empty-sum, whole-sum, small-most}
+use Rattle.exactsums.proofs.Gathering.{Underway, small-most, begun, further, ended}
 use Rattle.exactsums.proofs.gather.Statement.{statement}
 use Rattle.exactsums.proofs.gather.Tie as tie
 
--- the elements before the place i
-abbrev Passed : List Float → ℕ → Type 0
-Passed a i = (k : ℕ) → k < i → Element (getD a k nan)
-
 abbrev Inv-loop : tie.InvT-loop
-Inv-loop a b bins₀ n i₀ bins i =
-    (i ≤ lib.ListN.length a) × Small i bins × Passed a i × Passed b i × (number bins 0 41 * 2 ^ 172 + sumOver above (drop i a) (drop i b) ≡ positives a b) × (number bins 41 41 * 2 ^ 172 + sumOver below (drop i a) (drop i b) ≡ negatives a b)
+Inv-loop a b bins₀ n i₀ bins i = Underway a b bins i
 
 abbrev μ-loop : tie.MeasureT-loop
-μ-loop a b bins₀ n i₀ bins i = lib.ListN.length a - i
+μ-loop a b bins₀ n i₀ bins i = length a - i
 
 loop-holds : tie.Need-loop-holds Inv-loop μ-loop
-loop-holds c =
-    let s = c .before .before in
-    let h = s .pre .1 .1 in
-    (zero-le, empty-small (s .args .bins .now) h, λ k l. absurd (omega arith), λ k l. absurd (omega arith), empty-sum (s .args .bins .now) 0 (positives (s .args .a .now) (s .args .b .now)) h, empty-sum (s .args .bins .now) 41 (negatives (s .args .a .now) (s .args .b .now)) h)
+loop-holds c = let s = c .before .before in begun (s .args .a .now) (s .args .b .now) (s .args .bins .now) (s .pre .2)
 
 -- ---- a turn: the lists, the place, and the elements there
 abbrev first : tie.In-loop Inv-loop μ-loop → List Float
@@ -107,17 +99,19 @@ first-is c = first-tells (c .before .before .before) .if-true (not-false (c .bef
 second-is : (c : tie.Else2 Inv-loop μ-loop) → Element (getD (second (c .before .before .before .before .before .before .before .before)) (place (c .before .before .before .before .before .before .before .before)) nan)
 second-is c = second-tells (c .before) .if-true (not-false (c .before .accepted2 .result) (c .if2 .left))
 
+up : {i n : ℕ} → i < n → i + 1 ≤ n
+up h = omega arith
+
 add-requires : tie.Need-add-requires Inv-loop μ-loop
 add-requires c κs =
     let e = c .before in
     let l = e .before .before .before .before .before .before .before .before in
     let a = e .before .before .before in
-    (record { float = getD (first l) (place l) nan; element = first-is e; bits = a .before .before .before .bits-of .ensures },
-     (record { float = getD (second l) (place l) nan; element = second-is e; bits = a .before .bits-of2 .ensures },
-      small-most (place l) 4095 (l .before .loop .bins) (upto (l .loop-test .taken) (l .before .before .before .before .pre .1 .0)) (l .before .loop .inv .1 .0)))
-  where
-    upto : {i n : ℕ} → i < n → n ≤ 4096 → i ≤ 4095
-    upto h m = omega arith
+    let s = l .before .before .before .before in (
+      record { float = getD (first l) (place l) nan; element = first-is e; bits = a .before .before .before .bits-of .ensures },
+      record { float = getD (second l) (place l) nan; element = second-is e; bits = a .before .bits-of2 .ensures },
+      small-most (place l + 1) 4096 (l .before .loop .bins) (le-trans (up (l .loop-test .taken)) (s .pre .1)) (l .before .loop .inv .small),
+    )
 
 add-i : tie.Need-add-i Inv-loop μ-loop
 add-i c = let l = c .before .before .before .before .before .before .before .before .before .before in omega (arith, l .loop-test .taken)
@@ -125,53 +119,18 @@ add-i c = let l = c .before .before .before .before .before .before .before .bef
 loop-less : tie.Need-loop-less Inv-loop μ-loop
 loop-less c = let l = c .before .before .before .before .before .before .before .before .before .before in omega (arith, l .loop-test .taken)
 
--- one element more
-passed-more : (a : List Float) (i : ℕ) → Passed a i → Element (getD a i nan) → Passed a (i + 1)
-passed-more a i h e k l = elim (le-or-lt i k) [ inl m ↦ let f : k ≡ i = omega arith in rw f e | inr m ↦ h k m ]
-
 loop-again : tie.Need-loop-again Inv-loop μ-loop
 loop-again c =
     let e = c .before .before in
     let l = e .before .before .before .before .before .before .before .before in
-    let a = first l in
-    let b = second l in
-    let i = place l in
-    let v = l .before .loop .inv in
-    let bins = l .before .loop .bins in
-    let after = c .add .last .1 .1 .0 in
-    let x = getD a i nan in
-    let y = getD b i nan in
     let t = e .before .before .before in
-    let p = c .add .ensures .plus x y (first-is e) (second-is e) (t .before .before .before .bits-of .ensures) (t .before .bits-of2 .ensures) in
-    let m = c .add .ensures .minus x y (first-is e) (second-is e) (t .before .before .before .bits-of .ensures) (t .before .bits-of2 .ensures) in (
-      up (l .loop-test .taken),
-      rw (add-one i) (c .add .ensures .small i (v .1 .0)),
-      passed-more a i (v .1 .1 .0) (first-is e),
-      passed-more b i (v .1 .1 .1 .0) (second-is e),
-      rw p (one-further (number bins 0 41 * 2 ^ 172) (sumOver above (drop i a) (drop i b)) (sumOver above (drop (i + 1) a) (drop (i + 1) b)) (above x y) (positives a b) (v .1 .1 .1 .1 .0) (next-product above a b i (l .loop-test .taken) (in-second l))),
-      rw m (one-further (number bins 41 41 * 2 ^ 172) (sumOver below (drop i a) (drop i b)) (sumOver below (drop (i + 1) a) (drop (i + 1) b)) (below x y) (negatives a b) (v .1 .1 .1 .1 .1) (next-product below a b i (l .loop-test .taken) (in-second l))),
-    )
-  where
-    up : {i n : ℕ} → i < n → i + 1 ≤ n
-    up h = omega arith
+    further (first l) (second l) (l .before .loop .bins) _ (place l) _ _ (l .before .loop .inv) (l .loop-test .taken) (in-second l) (first-is e) (second-is e) (t .before .before .before .bits-of .ensures) (t .before .bits-of2 .ensures) (c .add .ensures)
 
 returns-3 : tie.Need-returns-3 Inv-loop μ-loop
 returns-3 c =
     let s = c .before .before .before .before in
-    let a = s .args .a .now in
-    let b = s .args .b .now in
-    let i = c .before .loop .i in
-    let v = c .before .loop .inv in
-    let bins = c .before .loop .bins in
-    record {
-      if-true = λ e. record {
-        elements = record { first = λ k l. v .1 .1 .0 k (lt-of-lt-of-le l (c .loop-test .left)); second = λ k l. v .1 .1 .1 .0 k (lt-of-lt-of-le (lt-of-lt-of-le l (le-of-eq (sym (s .pre .0)))) (c .loop-test .left)) };
-        plus = whole-sum (number bins 0 41 * 2 ^ 172) (sumOver above (drop i a) (drop i b)) (positives a b) (v .1 .1 .1 .1 .0) (no-product above a b i (c .loop-test .left));
-        minus = whole-sum (number bins 41 41 * 2 ^ 172) (sumOver below (drop i a) (drop i b)) (negatives a b) (v .1 .1 .1 .1 .1) (no-product below a b i (c .loop-test .left));
-        small = small-most i 4096 bins (le-trans (v .0) (s .pre .1 .0)) (v .1 .0);
-      };
-      if-false = λ e. absurd (true≢false e);
-    }
+    let l = c .before .loop in
+    record { if-true = λ e. ended (s .args .a .now) (s .args .b .now) (l .bins) (l .i) (s .pre .0) (s .pre .1) (l .inv) (c .loop-test .left); if-false = λ e. absurd (true≢false e) }
 
 pub gather-spec : {M : Type 1} → statement M
 gather-spec =

@@ -38,19 +38,19 @@ loop-again : tie.Need-loop-again Inv-loop μ-loop
 loop-again c =
     let ds = c .before .before .before .args .digits .now in
     let j = c .before .before .loop .j in
-    (omega arith, omega (arith, c .before .before .before .pre .0 .each j), rw (number-next₀ ds j) (sticky-next (number ds 0 j) (getD ds j 0) (16 ^ j) (c .before .before .loop .sum) (sixteen-pos j) (c .before .before .loop .inv .1 .1)))
+    (omega arith, omega (arith, c .before .before .before .pre .0 .each j), rw (number-next₀ ds j) (sticky-next (number ds 0 j) (getD ds j 0) (16 ^ j) (c .before .before .loop .sum) (sixteen-pos j) (c .before .before .loop .inv .2)))
 
 returns : tie.Need-returns Inv-loop μ-loop
 returns c =
     let l = c .before .before .loop in
     let e : l .j ≡ c .before .before .before .args .i = omega arith in
-    elim (l .inv .1 .1) [ inl (a, b) ↦ inl (rw e at a, refl) | inr (a, b) ↦ absurd (let z = c .if1 .taken in omega arith) ]
+    elim (l .inv .2) [ inl (a, b) ↦ inl (rw e at a, refl) | inr (a, b) ↦ absurd (let z = c .if1 .taken in omega arith) ]
 
 returns-2 : tie.Need-returns-2 Inv-loop μ-loop
 returns-2 c =
     let l = c .before .before .loop in
     let e : l .j ≡ c .before .before .before .args .i = omega arith in
-    elim (l .inv .1 .1) [ inl (a, b) ↦ absurd (c .if1 .left b) | inr (a, b) ↦ inr (rw e at a, refl) ]
+    elim (l .inv .2) [ inl (a, b) ↦ absurd (c .if1 .left b) | inr (a, b) ↦ inr (rw e at a, refl) ]
 
 pub rest-spec : {M : Type 1} → statement M
 rest-spec = tie.close (tie.spec Inv-loop μ-loop loop-holds mul-sum element-copy-out-sum add-sum add-j loop-less loop-again returns returns-2)

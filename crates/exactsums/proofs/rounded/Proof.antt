@@ -62,10 +62,10 @@ loop-less c = omega arith
 loop-again : tie.Need-loop-again Inv-loop μ-loop
 loop-again c =
     let l = c .before .before .before .loop in
-    (shorter (l .inv .0), more (ltb-true _ _ (c .before .if1 .taken)) (digit (c .before .before)), number-down (c .before .before .before .before .args .digits .now) (l .h) (l .i) (c .before .before .loop-test .taken) ∙ l .inv .1 .1)
+    (shorter (l .inv .0), more (ltb-true _ _ (c .before .if1 .taken)) (digit (c .before .before)), number-down (c .before .before .before .before .args .digits .now) (l .h) (l .i) (c .before .before .loop-test .taken) ∙ l .inv .2)
 
 mul-even-bits : tie.Need-mul-even-bits Inv-loop μ-loop
-mul-even-bits c = omega (arith, c .before .loop .inv .1 .0)
+mul-even-bits c = omega (arith, c .before .loop .inv .1)
 
 rest-requires : tie.Need-rest-requires Inv-loop μ-loop
 rest-requires c κs = (c .before .before .pre .0, c .before .loop .inv .0)
@@ -88,7 +88,7 @@ room : {h s : ℕ} → h < 2 ^ 62 → s ≤ 1 → 2 * h + s < 2 ^ 63
 room l m = omega arith
 
 add-even-bits : tie.Need-add-even-bits Inv-loop μ-loop
-add-even-bits c = omega (arith, room (c .before .before .loop .inv .1 .0) (one c))
+add-even-bits c = omega (arith, room (c .before .before .loop .inv .1) (one c))
 
 cast-even-bits : tie.Need-cast-even-bits Inv-loop μ-loop
 cast-even-bits c = omega (arith, c .before .before .loop .inv .0)
@@ -101,7 +101,7 @@ add-even-bits-2 c = omega (arith, c .before .before .loop .inv .0)
 
 even-bits-requires : tie.Need-even-bits-requires Inv-loop μ-loop
 even-bits-requires c κs =
-    (normal (c .before .before .loop .h) (c .before .before .loop .i) (number (c .before .before .before .args .digits .now) 0 (c .before .before .loop .i)) (c .rest .result) (stuck c) (enough (c .before)) (c .before .before .loop .inv .0), room (c .before .before .loop .inv .1 .0) (one c))
+    (normal (c .before .before .loop .h) (c .before .before .loop .i) (number (c .before .before .before .args .digits .now) 0 (c .before .before .loop .i)) (c .rest .result) (stuck c) (enough (c .before)) (c .before .before .loop .inv .0), room (c .before .before .loop .inv .1) (one c))
 
 returns : tie.Need-returns Inv-loop μ-loop
 returns c =
@@ -109,7 +109,7 @@ returns c =
     let l = r .before .before .loop in
     let ds = r .before .before .before .args .digits .now in
     c .even-bits .ensures
-    ∙ rounds-all (l .h) (l .i) (number ds 0 (l .i)) (r .rest .result) (stuck r) (enough (r .before)) (l .inv .0) (number ds 0 41 + r .before .before .before .args .top * 16 ^ 41) (l .inv .1 .1) (number-less ds 0 (l .i) (r .before .before .before .pre .0)) (l .inv .1 .0)
+    ∙ rounds-all (l .h) (l .i) (number ds 0 (l .i)) (r .rest .result) (stuck r) (enough (r .before)) (l .inv .0) (number ds 0 41 + r .before .before .before .args .top * 16 ^ 41) (l .inv .2) (number-less ds 0 (l .i) (r .before .before .before .pre .0)) (l .inv .1)
 
 pub rounded-spec : {M : Type 1} → statement M
 rounded-spec =

@@ -19,7 +19,7 @@ abbrev μ-loop : tie.MeasureT-loop
 
 loop-holds : tie.Need-loop-holds Inv-loop μ-loop
 unfolding number
-loop-holds c = (omega arith, omega arith, omega arith, c .pre .1 .0, refl)
+loop-holds c = (omega arith, omega arith, omega arith, c .pre .1, refl)
 
 add-x : tie.Need-add-x Inv-loop μ-loop
 add-x c = omega arith
@@ -31,7 +31,7 @@ element-copy-out-x : tie.Need-element-copy-out-x Inv-loop μ-loop
 element-copy-out-x c = omega arith
 
 -- no bin is larger than 2 ^ 63
-bin : (c : tie.In-loop Inv-loop μ-loop) (i : ℕ) → getD (c .before .before .args .bins .now) i 0 ≤ 4096 * 2 ^ 51
+bin : (c : tie.In-loop Inv-loop μ-loop) (i : ℕ) → getD (c .before .before .args .bins .now) i 0 ≤ 4097 * 2 ^ 51
 bin c i = c .before .before .pre .0 .each i
 
 add-x-2 : tie.Need-add-x-2 Inv-loop μ-loop
@@ -77,10 +77,10 @@ loop-less : tie.Need-loop-less Inv-loop μ-loop
 loop-less c = omega arith
 
 -- what is carried on and borrowed stays below 2 ^ 60
-carried : {f over : ℕ} → f ≤ 4096 * 2 ^ 51 → over ≤ 2 ^ 60 → (f + over) / 16 ≤ 2 ^ 60
+carried : {f over : ℕ} → f ≤ 4097 * 2 ^ 51 → over ≤ 2 ^ 60 → (f + over) / 16 ≤ 2 ^ 60
 carried l m = omega arith
 
-borrowed : {g under : ℕ} (low : ℕ) → g ≤ 4096 * 2 ^ 51 → under ≤ 2 ^ 60 → (g + under + 15 - low) / 16 ≤ 2 ^ 60
+borrowed : {g under : ℕ} (low : ℕ) → g ≤ 4097 * 2 ^ 51 → under ≤ 2 ^ 60 → (g + under + 15 - low) / 16 ≤ 2 ^ 60
 borrowed low l m = omega arith
 
 loop-again : tie.Need-loop-again Inv-loop μ-loop
@@ -93,20 +93,20 @@ loop-again c =
     let f = getD bins (a .first + j) 0 in
     let g = getD bins (a .second + j) 0 in
     let d = ((f + l .over) % 16 + 16 - (g + l .under) % 16) % 16 in
-    let h = l .inv .1 .1 .1 .0 in (
+    let h = l .inv .3 in (
       omega arith,
-      carried (bin (c .before .before) (a .first + j)) (l .inv .1 .0),
-      borrowed ((f + l .over) % 16) (bin (c .before .before) (a .second + j)) (l .inv .1 .1 .0),
+      carried (bin (c .before .before) (a .first + j)) (l .inv .1),
+      borrowed ((f + l .over) % 16) (bin (c .before .before) (a .second + j)) (l .inv .2),
       digits-set ds j d h (c .before .before .loop-test .taken) (omega arith),
       rw (number-next bins (a .first) j, number-next bins (a .second) j, number-written ds j d (omega (arith, h .long)), add-one j, pow-suc 16 j)
-      (subtract-step (number bins (a .first) j) (number bins (a .second) j) (number ds 0 j) (16 ^ j) f g (l .over) (l .under) (l .inv .1 .1 .1 .1)),
+      (subtract-step (number bins (a .first) j) (number bins (a .second) j) (number ds 0 j) (16 ^ j) f g (l .over) (l .under) (l .inv .4)),
     )
 
 returns : tie.Need-returns Inv-loop μ-loop
 returns c =
     let l = c .before .loop in
     let e : l .j ≡ 41 = omega arith in
-    record { same = rw e at (l .inv .1 .1 .1 .1); digits-each = l .inv .1 .1 .1 .0; room = l .inv .1 .0 }
+    record { same = rw e at (l .inv .4); digits-each = l .inv .3; room = l .inv .1 }
 
 pub subtract-spec : {M : Type 1} → statement M
 subtract-spec =
