@@ -87,7 +87,8 @@ further a b bins after i x y h l m r q is js d = record {
   small = rw (add-one (i + 1)) (d .small (i + 1) (h .small));
   first = passed a (h .first) r;
   second = passed b (h .second) q;
-  sum = rw (d .plus u w r q is js, d .minus u w r q is js) (moved (number bins 0 41 * 2 ^ 172) (number bins 41 41 * 2 ^ 172) (h .sum) (next-product above a b i l m) (next-product below a b i l m));
+  sum = rw (d .plus u w r q is js, d .minus u w r q is js)
+      (moved (number bins 0 41 * 2 ^ 172) (number bins 41 41 * 2 ^ 172) (next above) (next below) (above u w) (below u w) (negatives a b) (positives a b) (next-product above a b i l m) (next-product below a b i l m) (h .sum));
 }
   where
     u : Float
@@ -96,22 +97,25 @@ further a b bins after i x y h l m r q is js d = record {
     w : Float
     w = getD b i nan
 
+    next : (Float → Float → ℕ) → ℕ
+    next f = sumOver f (drop (i + 1) a) (drop (i + 1) b)
+
     passed : (c : List Float) → ((k : ℕ) → k < i → Element (getD c k nan)) → Element (getD c i nan) → (k : ℕ) → k < i + 1 → Element (getD c k nan)
     passed c before e k f = elim (le-or-lt i k) [ inl g ↦ let s : k ≡ i = omega arith in rw s e | inr g ↦ before k g ]
 
-    moved : (s t : ℕ) {v z v' z' f g n p : ℕ} → s + v + n ≡ t + z + p → v ≡ f + v' → z ≡ g + z' → s + f + v' + n ≡ t + g + z' + p
-    moved s t e f g = omega arith
+    moved : (s t x y f g n p : ℕ) {v z : ℕ} → v ≡ f + x → z ≡ g + y → s + v + n ≡ t + z + p → s + f + x + n ≡ t + g + y + p
+    moved s t x y f g n p k l e = omega arith
 
 -- the end
 pub ended : (a b : List Float) (bins : List ℕ) (i : ℕ) → length a ≡ length b → length a ≤ 4096 → Underway a b bins i → length a ≤ i → Gathered a b bins
 ended a b bins i e m h l = record {
   elements = record { first = λ k f. h .first k (lt-of-lt-of-le f l); second = λ k f. h .second k (lt-of-lt-of-le f (le-trans (le-of-eq (sym e)) l)) };
-  sum = whole (number bins 0 41 * 2 ^ 172) (number bins 41 41 * 2 ^ 172) (h .sum) (no-product above a b i l) (no-product below a b i l);
+  sum = whole (number bins 0 41 * 2 ^ 172) (number bins 41 41 * 2 ^ 172) (negatives a b) (positives a b) (no-product above a b i l) (no-product below a b i l) (h .sum);
   small = small-most (i + 1) 4097 bins (most (h .upto)) (h .small);
 }
   where
-    whole : (s t : ℕ) {v z n p : ℕ} → s + v + n ≡ t + z + p → v ≡ 0 → z ≡ 0 → s + n ≡ t + p
-    whole s t f v z = omega arith
+    whole : (s t n p : ℕ) {v z : ℕ} → v ≡ 0 → z ≡ 0 → s + v + n ≡ t + z + p → s + n ≡ t + p
+    whole s t n p v z f = omega arith
 
     most : i ≤ length a → i + 1 ≤ 4097
     most u = omega arith

@@ -2,4 +2,5 @@ pub mod Bins
 pub mod Patterns
 pub mod Rounding
 pub mod Gathering
+pub mod Ending
 pub mod Promise

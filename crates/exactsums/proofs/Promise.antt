@@ -4,7 +4,7 @@ use mathlib.Core.Logic.{_⊎_, inl, inr}
 use mathlib.Core.List.{List, [], _∷_}
 use mathlib.Core.Bool.{Bool, true, false, cond}
 use Prim.Native.Nat.{ℕ, _+_, _-_, _*_, _%_, _^_, _≤_, _<_, zero-le}
-use native.Mathlib.Nat.{le-trans, le-of-eq, le-of-lt, le-antisymm, lt-of-lt-of-le, lt-of-le-of-lt, zero-add, add-zero, add-mul, add-le-add, mul-one, mul-assoc, mul-right-comm, mul-le-mul-right, le-of-mul-le-mul-right, lt-of-mul-lt-mul-right}
+use native.Mathlib.Nat.{le-trans, le-of-eq, le-of-lt, le-antisymm, add-comm, lt-of-lt-of-le, lt-of-le-of-lt, zero-add, add-zero, add-mul, add-le-add, mul-one, mul-assoc, mul-right-comm, mul-le-mul-right, le-of-mul-le-mul-right, lt-of-mul-lt-mul-right}
 use native.Mathlib.Omega.{arith}
 use lib.Dec.{T, ltb, lit≤, lit<}
 use lib.Pow.{pow-pos}
@@ -134,37 +134,68 @@ module _ (p n : ℕ) where
 is-zero : (p n : ℕ) → p ≡ n → rounded p n ≡ ofBits binary32 0
 is-zero p n e = rounded-plus p n 0 (e ∙ sym (zero-add n)) ∙ float-zero
 
--- ---- success: all products stand in the bins
+-- equal differences round alike
+same-difference : (p n q m : ℕ) → p + m ≡ q + n → rounded p n ≡ rounded q m
+same-difference p n q m e = elim (le-or-lt n p) [
+  | inl l ↦ rounded-plus p n (p - n) (omega arith) ∙ sym (rounded-plus q m (p - n) (omega arith))
+  | inr l ↦ rounded-minus p n (n - p) (omega arith) (omega arith) ∙ sym (rounded-minus q m (n - p) (omega arith) (omega arith))
+]
+
+-- and are equally far from any float
+same-distance : (x : Float) (p n q m : ℕ) → p + m ≡ q + n → distance x p n ≡ distance x q m
+unfolding apart
+same-distance x p n q m e = go (P x * 2 ^ 149) (N x * 2 ^ 149)
+  where
+    go : (u v : ℕ) → u + n - (v + p) + (v + p - (u + n)) ≡ u + m - (v + q) + (v + q - (u + m))
+    go u v = omega arith
+
+same-apart : (p n q m : ℕ) → p + m ≡ q + n → apart p n ≡ apart q m
+unfolding apart
+same-apart p n q m e = omega arith
+
+-- ---- success: all products stand in the bins, x less y is the exact sum, in units of 2 ^ -126
 module _ (a b : List Float) (l : Lengths a b) (bins : List ℕ) (g : Gathered a b bins) where
+  abbrev x : ℕ
+  x = number bins 0 41 * 2 ^ 172
+
+  abbrev y : ℕ
+  y = number bins 41 41 * 2 ^ 172
+
   abbrev p : ℕ
   p = positives a b
 
   abbrev n : ℕ
   n = negatives a b
 
-  -- 82 bins below 2 ^ 63 hold less than 2 ^ 400
-  bounded : (s m : ℕ) → number bins s 41 * 2 ^ 172 ≡ m → m ≤ 2 ^ 400
-  bounded s m e = le-trans (le-of-eq (sym e)) (le-trans (mul-le-mul-right (2 ^ 172) (number-most bins s 41 (4096 * 2 ^ 51) (g .small .each))) (lit≤ tt))
+  -- 41 bins of less than 2 ^ 64 hold less than 2 ^ 400
+  bounded : (s : ℕ) → number bins s 41 * 2 ^ 172 ≤ 2 ^ 400
+  bounded s = le-trans (mul-le-mul-right (2 ^ 172) (number-most bins s 41 (4097 * 2 ^ 51) (g .small .each))) (lit≤ tt)
 
-  promised : NearestDot a b 0 (rounded p n)
+  balance : x + n ≡ p + y
+  balance = g .sum ∙ add-comm y p
+
+  far : (w : Float) → distance w x y ≡ distance w p n
+  far w = same-distance w x y p n balance
+
+  promised : NearestDot a b 0 (rounded x y)
   promised =
-      let u = bounded 0 p (g .plus) in
-      let v = bounded 41 n (g .minus) in
-      let all : Accepts a b = record { lengths = l; elements = g .elements } in
+      let z = rounded x y in
+      let u = bounded 0 in
+      let v = bounded 41 in
       record {
         bad-length = λ h. absurd (h l);
         out-of-range = λ k h. absurd (h (g .elements));
         success = λ h. refl;
-        value = λ h. refl;
-        finite = λ h. is-number p n u v;
-        nearest = λ h. is-nearest p n u v;
-        even = λ h. is-even p n u v;
-        near = λ h. is-near p n u v (number bins 0 41) (number bins 41 41) (g .plus) (g .minus);
-        zero = λ h. is-zero p n;
+        value = λ h. same-difference x y p n balance;
+        finite = λ h. is-number x y u v;
+        nearest = λ h w k. rw (far z, far w) at (is-nearest x y u v w k);
+        even = λ h w k e. is-even x y u v w k (far w ∙ e ∙ sym (far z));
+        near = λ h. le-trans (le-of-eq (ap (λ (m : ℕ). m * 2 ^ 24) (sym (far z)))) (le-trans (is-near x y u v (number bins 0 41) (number bins 41 41) refl refl) (le-of-eq (same-apart x y p n balance)));
+        zero = λ h e. same-difference x y p n balance ∙ is-zero p n e;
       }
 
-  pub success : {before r : ℕ} → r ≡ floatBits (rounded (number bins 0 41 * 2 ^ 172) (number bins 41 41 * 2 ^ 172)) → Ends floatBits (NearestDot a b) 0 before r
-  success e = written (rounded p n) promised (e ∙ ap₂ (λ (x y : ℕ). floatBits (rounded x y)) (g .plus) (g .minus))
+  pub success : {before r : ℕ} → r ≡ floatBits (rounded x y) → Ends floatBits (NearestDot a b) 0 before r
+  success e = written (rounded x y) promised e
 
 -- ---- refusals
 module _ (a b : List Float) {before : ℕ} where
@@ -188,13 +219,6 @@ module _ (a b : List Float) {before : ℕ} where
   refused-element l n = refused 1 (λ z. omega arith) (λ h. n (h .elements)) (λ m. absurd (m l)) (λ g m. refl)
 
 -- ---- the result depends on the exact sum alone
--- equal differences round alike
-same-difference : (p n q m : ℕ) → p + m ≡ q + n → rounded p n ≡ rounded q m
-same-difference p n q m e = elim (le-or-lt n p) [
-  | inl l ↦ rounded-plus p n (p - n) (omega arith) ∙ sym (rounded-plus q m (p - n) (omega arith))
-  | inr l ↦ rounded-minus p n (n - p) (omega arith) (omega arith) ∙ sym (rounded-minus q m (n - p) (omega arith) (omega arith))
-]
-
 -- two pairs of accepted lists with one exact sum have one result
 pub same-sum : (a b c d : List Float) (r s : Float) → Accepts a b → Accepts c d → NearestDot a b 0 r → NearestDot c d 0 s → positives a b + negatives c d ≡ positives c d + negatives a b → r ≡ s
 same-sum a b c d r s h k x y e = x .value h ∙ same-difference (positives a b) (negatives a b) (positives c d) (negatives c d) e ∙ sym (y .value k)

@@ -100,7 +100,7 @@ same-rounding h k r s D is pos small (inr (some, o)) many =
     (lt-of-lt-of-le (size-lt h) (le-of-eq (ap (λ (i : ℕ). 2 ^ i) e ∙ pow-add 2 25 j))) some o
 
 -- ---- the float of a fraction X / 2 ^ 298 with the sign s
-abbrev float : Bool → ℕ → Float
+abbrev pub float : Bool → ℕ → Float
 float s X = round binary32 s X (2 ^ 298)
 
 float-size : (s : Bool) (X : ℕ) → mag (float s X) ≡ cap (rnd X (2 ^ 149))

@@ -38,7 +38,7 @@ sub-i : tie.Need-sub-i Inv-loop μ-loop
 sub-i c = c .before .loop-test .taken
 
 mul-h : tie.Need-mul-h Inv-loop μ-loop
-mul-h c = omega (arith, ltb-true _ _ (c .if1 .taken))
+mul-h c = omega (arith, ltb-true (c .before .before .loop .h) 288230376151711744 (c .if1 .taken))
 
 mul-h-2 : tie.Need-mul-h-2 Inv-loop μ-loop
 mul-h-2 c = omega arith
@@ -54,7 +54,7 @@ cast-h : tie.Need-cast-h Inv-loop μ-loop
 cast-h c = omega (arith, digit (c .before .before))
 
 add-h : tie.Need-add-h Inv-loop μ-loop
-add-h c = omega (arith, digit (c .before .before), ltb-true _ _ (c .before .if1 .taken))
+add-h c = omega (arith, digit (c .before .before), ltb-true (c .before .before .before .loop .h) 288230376151711744 (c .before .if1 .taken))
 
 loop-less : tie.Need-loop-less Inv-loop μ-loop
 loop-less c = omega arith

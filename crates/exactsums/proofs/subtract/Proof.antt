@@ -99,7 +99,7 @@ loop-again c =
       borrowed ((f + l .over) % 16) (bin (c .before .before) (a .second + j)) (l .inv .2),
       digits-set ds j d h (c .before .before .loop-test .taken) (omega arith),
       rw (number-next bins (a .first) j, number-next bins (a .second) j, number-written ds j d (omega (arith, h .long)), add-one j, pow-suc 16 j)
-      (subtract-step (number bins (a .first) j) (number bins (a .second) j) (number ds 0 j) (16 ^ j) f g (l .over) (l .under) (l .inv .4)),
+          (subtract-step (number bins (a .first) j) (number bins (a .second) j) (number ds 0 j) (16 ^ j) f g (l .over) (l .under) (l .inv .4)),
     )
 
 returns : tie.Need-returns Inv-loop μ-loop
