@@ -59,11 +59,12 @@ fn gather(a: &[f32], b: &[f32], bins: &mut [u64; 82]) -> bool
     requires { ⌜ (length (now a) ≡ length (now b)) × (length (now a) ≤ 4096) × Level (now bins) ⌝ }
     ensures { λ r. ⌜ Judged (now (a .entry)) (now (b .entry)) (now (bins .exit)) r ⌝ }
 {
-    let n = a.len();
-    let mut i = 0;
+    let n = a.len() as u32;
+    let mut i: u32 = 0;
     while i < n {
-        let x = fixed::bits_of(a[i]);
-        let y = fixed::bits_of(b[i]);
+        let k = i as usize;
+        let x = fixed::bits_of(a[k]);
+        let y = fixed::bits_of(b[k]);
         if !accepted(x) {
             return false;
         }

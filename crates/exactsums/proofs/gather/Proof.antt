@@ -4,10 +4,10 @@ use mathlib.Core.List.{List}
 use mathlib.Core.Bool.{Bool, true, false, true≢false}
 use mathlib.Core.Logic.{inl, inr}
 use Prim.Native.Nat.{ℕ, _+_, _-_, _*_, _^_, _≤_, _<_, zero-le}
-use native.Mathlib.Nat.{lt-of-lt-of-le, le-of-eq, le-trans}
+use native.Mathlib.Nat.{lt-of-lt-of-le, lt-of-le-of-lt, le-of-eq, le-trans}
 use native.Mathlib.Numerals.{add-one}
 use native.Mathlib.Omega.{arith}
-use lib.Dec.{T}
+use lib.Dec.{T, lit<}
 use lib.ListN.{length, getD, drop}
 use lib.Ieee.{Float, nan, binary32, fits}
 use borrow.Author.Needs.{needs, scaled-fits}
@@ -28,6 +28,9 @@ Inv-loop a b bins₀ n i₀ bins i = Underway a b bins i
 
 abbrev μ-loop : tie.MeasureT-loop
 μ-loop a b bins₀ n i₀ bins i = length a - i
+
+cast-n : tie.Need-cast-n Inv-loop μ-loop
+cast-n c = record { fits = lt-of-le-of-lt (c .before .before .pre .1) (lit< tt) }
 
 loop-holds : tie.Need-loop-holds Inv-loop μ-loop
 loop-holds c = let s = c .before .before in begun (s .args .a .now) (s .args .b .now) (s .args .bins .now) (s .pre .2)
@@ -50,6 +53,9 @@ first-fits c = c .before .before .before .shared-slice-known .given (place c)
 
 second-fits : (c : tie.In-loop Inv-loop μ-loop) → T (fits binary32 (getD (second c) (place c) nan))
 second-fits c = c .before .before .shared-slice-known2 .given (place c)
+
+cast-k : tie.Need-cast-k Inv-loop μ-loop
+cast-k c = search needs
 
 mul-bits-of : tie.Need-mul-bits-of Inv-loop μ-loop
 mul-bits-of c = scaled-fits (place c) (length (first c)) 4 (c .loop-test .taken) (c .before .before .before .before .good .0 .1)
@@ -135,4 +141,4 @@ returns-3 c =
 pub gather-spec : {M : Type 1} → statement M
 gather-spec =
     tie.close
-    (tie.spec Inv-loop μ-loop loop-holds mul-bits-of shared-slice-read-bits-of bits-of-requires mul-bits-of-2 shared-slice-read-bits-of-2 bits-of-requires-2 accepted-requires returns accepted-requires-2 returns-2 add-requires add-i loop-less loop-again returns-3)
+    (tie.spec Inv-loop μ-loop cast-n loop-holds cast-k mul-bits-of shared-slice-read-bits-of bits-of-requires mul-bits-of-2 shared-slice-read-bits-of-2 bits-of-requires-2 accepted-requires returns accepted-requires-2 returns-2 add-requires add-i loop-less loop-again returns-3)
