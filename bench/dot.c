@@ -8,12 +8,12 @@
  * rounding errors along (Ogita, Rump, Oishi: Dot2) and judges the elements too.
  */
 #include <math.h>
-#include <stdbool.h>
 #include <stdint.h>
 #include <stdio.h>
 
 #include "clock.h"
 #include "earmath.h"
+#include "straight.h"
 
 enum { LONGEST = 1024, SAMPLES = 1024, ROUNDS = 400, OURS = 0, PLAIN, NEAREST, CARRYING, CONTESTANTS };
 
@@ -28,34 +28,9 @@ __attribute__((noinline)) float plain_loop(const float *a, const float *b, size_
     return s;
 }
 
-/* x * y - p exactly, where p is the rounded product: both are split into halves of 12 digits. */
-static float lost_by_product(float x, float y, float p)
+__attribute__((noinline)) uint32_t carrying_loop(const float *a, const float *b, size_t n, float *out)
 {
-    float t = 4097 * x, x1 = t - (t - x), x2 = x - x1;
-    t = 4097 * y;
-    float y1 = t - (t - y), y2 = y - y1;
-    return x2 * y2 - (p - x1 * y1 - x2 * y1 - x1 * y2);
-}
-
-static bool judged(const float *a, size_t n)
-{
-    for (size_t i = 0; i < n; i++)
-        if (!(a[i] == 0 || (fabsf(a[i]) >= 0x1p-40f && fabsf(a[i]) <= 0x1p40f)))
-            return false;
-    return true;
-}
-
-__attribute__((noinline)) float carrying_loop(const float *a, const float *b, size_t n)
-{
-    float s = 0, c = 0;
-    if (!judged(a, n) || !judged(b, n))
-        return NAN;
-    for (size_t i = 0; i < n; i++) {
-        float p = a[i] * b[i], q = s + p, z = q - s;
-        c += (s - (q - z)) + (p - z) + lost_by_product(a[i], b[i], p);
-        s = q;
-    }
-    return s + c;
+    return straight_carrying(a, b, n, out);
 }
 
 static void ours(size_t n)
@@ -79,7 +54,7 @@ static void nearest(size_t n)
 static void carrying(size_t n)
 {
     for (size_t i = 0; i < SAMPLES; i++)
-        output[i] = carrying_loop(taps, signal + i, n);
+        carrying_loop(taps, signal + i, n, &output[i]);
 }
 
 static void (*const loops[CONTESTANTS])(size_t n) = {ours, plain, nearest, carrying};

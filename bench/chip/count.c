@@ -47,6 +47,8 @@ enum evenly { OVER_PATTERNS, OVER_VALUES, IN_LISTS };
     LINE(cosine_of_pi_x, ear_cospi, ear_cospi(x, &y), "cosine_of_pi", y = cosine_of_pi(x), EVERY_ANGLE) \
     LINE(dot, ear_dot, ear_dot(list, LENGTH, other, LENGTH, &y), "plain_loop", y = plain_loop(list, other, LENGTH), \
          LISTS_OF_64) \
+    LINE(nearest_dot, ear_dot_nearest, ear_dot_nearest(list, LENGTH, other, LENGTH, &y), "carrying_loop", \
+         carrying_loop(list, other, LENGTH, &y), LISTS_OF_64) \
     LINE(softmax, ear_softmax2, ear_softmax2(list, LENGTH, out, LENGTH), "softmax_in_c", softmax_in_c(list, LENGTH, out), \
          LISTS_OF_64) \
     LINE(loudness_map, ear_loudness, ear_loudness(CHANNEL, x, &step), "map_in_c", map_in_c(CHANNEL, x, &step), BETWEEN) \

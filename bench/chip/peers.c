@@ -30,6 +30,11 @@ float plain_loop(const float *a, const float *b, uint32_t n)
     return sum;
 }
 
+uint32_t carrying_loop(const float *a, const float *b, uint32_t n, float *out)
+{
+    return straight_carrying(a, b, n, out);
+}
+
 uint32_t softmax_in_c(const float *x, uint64_t n, float *p)
 {
     return straight_softmax(exp2f, x, n, p);

@@ -14,35 +14,37 @@ use Rattle.units.proofs.Naturals.{le-or-lt}
 use Rattle.sums.specs.Sum.{above, below}
 use Rattle.sums.specs.Dot.{sumOver}
 use Rattle.exactsums.specs.Nearest.{Element, positives, negatives}
-use Rattle.exactsums.specs.Work.{Exponent, IsProduct, number, Small, Level, Added, Gathered}
+use Rattle.exactsums.specs.Work.{Sized, IsProduct, rowOf, number, Small, Level, Added, Gathered}
 use Rattle.exactsums.proofs.Bins.{small-more, small-set}
-use Rattle.exactsums.proofs.Patterns.{none-of, adds-nothing, adds-one}
+use Rattle.exactsums.proofs.Patterns.{none-of, none-or-sized, adds-nothing, adds-one}
 
 -- ---- what `add` does
--- nothing where a factor is 0
-pub added-none : (x y : ℕ) (bins : List ℕ) → (x % 2147483648 ≡ 0) ⊎ (y % 2147483648 ≡ 0) → Added x y bins bins
-added-none x y bins z = record {
+-- nothing where one is not from 2 ^ -40 to 2 ^ 40 in size, since it is 0 then
+pub added-none : (x y : ℕ) (bins : List ℕ) → ¬ (Sized x × Sized y) → Added x y bins bins
+added-none x y bins n = record {
   plus = λ u w r q is js. stays (nothing u w r q is js .0);
   minus = λ u w r q is js. stays (nothing u w r q is js .1);
   small = λ t h. small-more t bins h;
 }
   where
     nothing : (u w : Float) → Element u → Element w → x ≡ floatBits u → y ≡ floatBits w → (above u w ≡ 0) × (below u w ≡ 0)
-    nothing u w r q is js = adds-nothing u w r q x y is js (elim z [ inl e ↦ inl (none-of u r x is e) | inr e ↦ inr (none-of w q y js e) ])
+    nothing u w r q is js = adds-nothing u w r q x y is js (elim (none-or-sized u r x is) [
+      | inl e ↦ inl (none-of u r x is e)
+      | inr s ↦ elim (none-or-sized w q y js) [ inl e ↦ inr (none-of w q y js e) | inr t ↦ absurd (n (s, t)) ]
+    ])
 
     stays : {n m : ℕ} → m ≡ 0 → n ≡ n + m
     stays e = omega arith
 
 -- else the product goes to its bin
-pub added-one : (x y : ℕ) (bins : List ℕ) (d k i : ℕ) → length bins ≡ 82 → IsProduct x y d k → ¬ (x % 2147483648 ≡ 0) → ¬ (y % 2147483648 ≡ 0) → i ≡ (x / 2147483648 + y / 2147483648) % 2 * 41 + k
-    → Added x y bins (set bins i (getD bins i 0 + d))
+pub added-one : (x y : ℕ) (bins : List ℕ) (d k i : ℕ) → length bins ≡ 82 → IsProduct x y d k → Sized x → Sized y → i ≡ rowOf x y + k → Added x y bins (set bins i (getD bins i 0 + d))
 added-one x y bins d k i long p z w at = record {
   plus = λ u v r q is js. adds-one u v r q x y is js bins long d k p z w i at .0;
   minus = λ u v r q is js. adds-one u v r q x y is js bins long d k p z w i at .1;
   small = λ t h. small-set t bins i d h (room (p .room) at) (p .small);
 }
   where
-    room : k ≤ 40 → i ≡ (x / 2147483648 + y / 2147483648) % 2 * 41 + k → i < 82
+    room : k ≤ 40 → i ≡ rowOf x y + k → i < 82
     room l e = omega arith
 
 -- ---- the products to come

@@ -2,14 +2,13 @@
 use mathlib.Core.Path.{_≡_, refl, sym, ap, ap₂, _∙_, subst}
 use mathlib.Core.Logic.{_⊎_, inl, inr}
 use mathlib.Core.List.{List}
-use mathlib.Core.Bool.{Bool, true, false, cond, true≢false}
+use mathlib.Core.Bool.{Bool, true, false, cond}
 use Prim.Native.Nat.{ℕ, zero, suc, _+_, _-_, _*_, _/_, _%_, _^_, _≤_, _<_, zero-le}
-use native.Mathlib.Nat.{le-trans, le-of-eq, lt-of-lt-of-le, lt-of-le-of-lt, not-le-of-lt, zero-add, add-zero, zero-mul, mul-zero, mul-pos, add-mul, mul-assoc, mul-comm, mul-one}
+use native.Mathlib.Nat.{eq-zero-or-pos, le-trans, le-of-eq, lt-of-lt-of-le, lt-of-le-of-lt, not-le-of-lt, zero-add, add-zero, zero-mul, mul-zero, mul-pos, add-mul, mul-assoc, mul-comm, mul-one}
 use native.Mathlib.Omega.{arith}
-use lib.Dec.{T, leb}
+use lib.Dec.{T}
 use lib.ListN.{length, getD, set}
 use lib.Pow.{pow-add, pow-pos}
-use borrow.Author.Tests.{leb-true, leb-false}
 use lib.Ieee.{Float, binary32, fits, toBits}
 use Rattle.units.specs.Units.{mag, negative, P, N, Number}
 use Rattle.units.specs.Answers.{floatBits}
@@ -18,7 +17,7 @@ use Rattle.units.proofs.Naturals.{le-or-lt}
 use Rattle.units.proofs.Patterns.{Shape, packed, packed-of, packed-le, packed-lt, finite-below, within, beyond}
 use Rattle.sums.specs.Sum.{above, below}
 use Rattle.exactsums.specs.Nearest.{Element}
-use Rattle.exactsums.specs.Work.{Exponent, IsProduct, number}
+use Rattle.exactsums.specs.Work.{Sized, Exponent, IsProduct, rowOf, number}
 use Rattle.exactsums.proofs.Bins.{number-more, number-out}
 
 -- the first digit alone, as of a power of two
@@ -44,8 +43,8 @@ module _ (x : Float) where
       none (suc m) k s f = absurd (let l : 0 < suc m * 2 ^ k = mul-pos (omega arith) (pow-pos k) in omega arith)
 
   -- of an accepted float that is not 0 it lies between those of 2 ^ -40 and 2 ^ 40
-  pub bounds : Element x → ¬ (t ≡ 0) → (729808896 ≤ t) × (t ≤ 1400897536)
-  bounds r z = elim (r .size) [ inl e ↦ absurd (z (size-zero (r .number) e)) | inr (lo, hi) ↦ (least lo, most hi) ]
+  pub sized-of : Element x → ¬ (t ≡ 0) → Sized (floatBits x)
+  sized-of r z = elim (r .size) [ inl e ↦ absurd (z (size-zero (r .number) e)) | inr (lo, hi) ↦ record { least = least lo; most = most hi } ]
     where
       least : 2 ^ 109 ≤ mag x → 729808896 ≤ t
       least lo = elim (le-or-lt 729808896 t) [
@@ -62,18 +61,19 @@ module _ (x : Float) where
     accepts-zero e = let n = finite-below x f (lt-of-le-of-lt (le-of-eq e) (omega arith)) in record { number = n; size = inl (zero-size n e) }
 
     -- and what lies between
-    accepts-between : 729808896 ≤ t → t ≤ 1400897536 → Element x
-    accepts-between l h =
-        let (n, m) = within 8388608 166 (first 166) x (omega arith) f h in
+    pub accepts-sized : Sized (floatBits x) → Element x
+    accepts-sized h =
+        let (n, m) = within 8388608 166 (first 166) x (omega arith) f (h .most) in
         let p = packed-of x n in
-        record { number = n; size = inr (rw (p .units) (packed-le 8388608 86 (p .m) (p .k) (first 86) (p .shape) (rw (p .size-bits) at l)), m) }
+        record { number = n; size = inr (rw (p .units) (packed-le 8388608 86 (p .m) (p .k) (first 86) (p .shape) (rw (p .size-bits) at (h .least))), m) }
 
-    -- so the two tests tell of any other
-    pub tells-most : ¬ (t ≡ 0) → 729808896 ≤ t → Tells (Element x) (leb t 1400897536)
-    tells-most z l = record { if-true = λ e. accepts-between l (leb-true t 1400897536 e); if-false = λ e r. not-le-of-lt (leb-false t 1400897536 e) (bounds r z .1) }
+    -- so the test of that tells of any other
+    pub tells-sized : {answer : Bool} → ¬ (t ≡ 0) → Tells (Sized (floatBits x)) answer → Tells (Element x) answer
+    tells-sized z h = record { if-true = λ e. accepts-sized (h .if-true e); if-false = λ e r. h .if-false e (sized-of r z) }
 
-    pub tells-least : ¬ (t ≡ 0) → leb 729808896 t ≡ false → Tells (Element x) (leb 729808896 t)
-    tells-least z e = record { if-true = λ g. absurd (true≢false (sym g ∙ e)); if-false = λ g r. not-le-of-lt (leb-false 729808896 t e) (bounds r z .0) }
+-- its exponent is one of 81
+pub exponent-of : (b : ℕ) → Sized b → Exponent b
+exponent-of b h = let l = h .least in let m = h .most in record { least = omega arith; most = omega arith }
 
 -- ---- an accepted float by its pattern b
 module _ (x : Float) (r : Element x) (b : ℕ) (is : b ≡ floatBits x) where
@@ -81,25 +81,24 @@ module _ (x : Float) (r : Element x) (b : ℕ) (is : b ≡ floatBits x) where
   pub none-of : b % 2147483648 ≡ 0 → mag x ≡ 0
   none-of e = zero-size x (r .number) (ap (λ (n : ℕ). n % 2147483648) (sym is) ∙ e)
 
-  module _ (z : ¬ (b % 2147483648 ≡ 0)) where
-    size-bounds : (729808896 ≤ b % 2147483648) × (b % 2147483648 ≤ 1400897536)
-    size-bounds = rw is (bounds x r (rw is at z))
+  -- any other
+  pub none-or-sized : (b % 2147483648 ≡ 0) ⊎ Sized b
+  none-or-sized = elim (eq-zero-or-pos (b % 2147483648)) [ inl e ↦ inl e | inr l ↦ inr (rw is (sized-of x r (some (rw is at l)))) ]
+    where
+      some : {n : ℕ} → 0 < n → ¬ (n ≡ 0)
+      some l e = omega arith
 
-    -- any other: its exponent is one of 81
-    pub exponent-of : Exponent b
-    exponent-of = let (l, h) = size-bounds in record { least = omega arith; most = omega arith }
-
-    -- and its size has 24 digits
-    pub size-of : mag x ≡ (b % 8388608 + 8388608) * 2 ^ (b / 8388608 % 256 - 1)
-    size-of = let p = packed-of x (r .number) in p .units ∙ digits (p .m) (p .k) (p .shape) (ap (λ (n : ℕ). n % 2147483648) is ∙ p .size-bits) (size-bounds .0)
-      where
-        digits : (m k : ℕ) → Shape m k → b % 2147483648 ≡ packed m k → 729808896 ≤ b % 2147483648 → m * 2 ^ k ≡ (b % 8388608 + 8388608) * 2 ^ (b / 8388608 % 256 - 1)
-        digits m k s e l =
-            let few : m < 16777216 = s .few in
-            elim (s .first) [
-              | inl n ↦ absurd (omega arith)
-              | inr n ↦ let n' : 8388608 ≤ m = n in ap₂ (λ (u v : ℕ). u * 2 ^ v) (omega arith) (omega arith)
-            ]
+  -- whose size has 24 digits
+  pub size-of : Sized b → mag x ≡ (b % 8388608 + 8388608) * 2 ^ (b / 8388608 % 256 - 1)
+  size-of h = let p = packed-of x (r .number) in p .units ∙ digits (p .m) (p .k) (p .shape) (ap (λ (n : ℕ). n % 2147483648) is ∙ p .size-bits) (h .least)
+    where
+      digits : (m k : ℕ) → Shape m k → b % 2147483648 ≡ packed m k → 729808896 ≤ b % 2147483648 → m * 2 ^ k ≡ (b % 8388608 + 8388608) * 2 ^ (b / 8388608 % 256 - 1)
+      digits m k s e l =
+          let few : m < 16777216 = s .few in
+          elim (s .first) [
+            | inl n ↦ absurd (omega arith)
+            | inr n ↦ let n' : 8388608 ≤ m = n in ap₂ (λ (u v : ℕ). u * 2 ^ v) (omega arith) (omega arith)
+          ]
 
 -- ---- the exact product of two accepted floats, by their patterns
 module _ (x y : Float) (r : Element x) (q : Element y) (b c : ℕ) (is : b ≡ floatBits x) (js : c ≡ floatBits y) where
@@ -116,10 +115,10 @@ module _ (x y : Float) (r : Element x) (q : Element y) (b c : ℕ) (is : b ≡ f
       go false false m n e f = (λ g. (simp (zero-mul, add-zero), simp (zero-mul, mul-zero)), λ g. absurd (omega arith))
 
   -- their sizes, where neither is 0
-  sizes : (d k : ℕ) → IsProduct b c d k → ¬ (b % 2147483648 ≡ 0) → ¬ (c % 2147483648 ≡ 0) → d * 16 ^ k * 2 ^ 172 ≡ mag x * mag y
+  sizes : (d k : ℕ) → IsProduct b c d k → Sized b → Sized c → d * 16 ^ k * 2 ^ 172 ≡ mag x * mag y
   sizes d k p z w =
-      let e = exponent-of x r b is z in
-      let f = exponent-of y q c js w in
+      let e = exponent-of b z in
+      let f = exponent-of c w in
       ap (λ (n : ℕ). n * 2 ^ 172) (p .same) ∙ gathered (b % 8388608 + 8388608) (c % 8388608 + 8388608) (b / 8388608 % 256) (c / 8388608 % 256) (e .least) (f .least)
       ∙ sym (ap₂ (λ (m n : ℕ). m * n) (size-of x r b is z) (size-of y q c js w))
     where
@@ -145,7 +144,7 @@ module _ (x y : Float) (r : Element x) (q : Element y) (b c : ℕ) (is : b ≡ f
       none (inr e) = ap (λ (n : ℕ). mag x * n) e ∙ mul-zero (mag x)
 
   -- else the product goes to one row, and the other row stays
-  module _ (bins : List ℕ) (long : length bins ≡ 82) (d k : ℕ) (p : IsProduct b c d k) (z : ¬ (b % 2147483648 ≡ 0)) (w : ¬ (c % 2147483648 ≡ 0)) where
+  module _ (bins : List ℕ) (long : length bins ≡ 82) (d k : ℕ) (p : IsProduct b c d k) (z : Sized b) (w : Sized c) where
     abbrev after : ℕ → List ℕ
     after i = set bins i (getD bins i 0 + d)
 
@@ -155,7 +154,7 @@ module _ (x y : Float) (r : Element x) (q : Element y) (b c : ℕ) (is : b ≡ f
     stays : (i s : ℕ) → (i < s) ⊎ (s + 41 ≤ i) → number (after i) s 41 * 2 ^ 172 ≡ number bins s 41 * 2 ^ 172 + 0
     stays i s o = ap (λ (n : ℕ). n * 2 ^ 172) (number-out bins i (getD bins i 0 + d) s 41 o) ∙ sym (add-zero (number bins s 41 * 2 ^ 172))
 
-    pub adds-one : (i : ℕ) → i ≡ (b / 2147483648 + c / 2147483648) % 2 * 41 + k
+    pub adds-one : (i : ℕ) → i ≡ rowOf b c + k
         → (number (after i) 0 41 * 2 ^ 172 ≡ number bins 0 41 * 2 ^ 172 + above x y) × (number (after i) 41 41 * 2 ^ 172 ≡ number bins 41 41 * 2 ^ 172 + below x y)
     adds-one i at = elim (parity (b / 2147483648 + c / 2147483648)) [
       | inl e ↦

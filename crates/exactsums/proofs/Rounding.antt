@@ -89,11 +89,11 @@ module _ (h k r s D : ℕ) (is : h * 2 ^ k + r ≡ D) (pos : 0 < h) where
         ∙ sym kept-digits ∙ ap (λ (i : ℕ). rnd ((2 * h + i) * 2 ^ (62 + k)) (2 ^ 40)) (sym o)
 
 -- whatever is left
-pub same-rounding : (h k r s D : ℕ) → h * 2 ^ k + r ≡ D → 0 < h → r < 2 ^ k → Sticky r s → (0 < r → 2 ^ 58 ≤ h) → rnd (D * 2 ^ 172) (2 ^ 149) ≡ rnd ((2 * h + s) * 2 ^ (62 + k)) (2 ^ 40)
+pub same-rounding : (h k r s D : ℕ) → h * 2 ^ k + r ≡ D → 0 < h → r < 2 ^ k → Sticky r s → (0 < r → 2 ^ 57 ≤ h) → rnd (D * 2 ^ 172) (2 ^ 149) ≡ rnd ((2 * h + s) * 2 ^ (62 + k)) (2 ^ 40)
 same-rounding h k r s D is pos small (inl (z, o)) many = plain h k r s D is pos z o
 same-rounding h k r s D is pos small (inr (some, o)) many =
     let z = size h in
-    let more : 58 < z = pow-back-lt 58 z (lt-of-le-of-lt (many some) (size-lt h)) in
+    let more : 57 < z = pow-back-lt 57 z (lt-of-le-of-lt (many some) (size-lt h)) in
     let j = z - 25 in
     let e : z ≡ 25 + j = omega arith in
     between h k r s D is pos small j (le-trans (le-of-eq (sym (pow-add 2 24 j))) (size-reaches h (24 + j) (omega arith)))
@@ -162,7 +162,7 @@ unfolding round ofBits
 float-zero = refl
 
 -- ---- the end: h and what is left below the place i, r, are D
-module _ (h i r s : ℕ) (w : Sticky r s) (many : 0 < r → 2 ^ 58 ≤ h) (few : i ≤ 41) where
+module _ (h i r s : ℕ) (w : Sticky r s) (many : 0 < r → 2 ^ 57 ≤ h) (few : i ≤ 41) where
   -- s is a digit, and set only beside a large h
   pub bit : s ≤ 1
   bit = elim w [ inl (e, o) ↦ omega arith | inr (e, o) ↦ omega arith ]

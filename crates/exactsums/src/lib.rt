@@ -2,21 +2,36 @@
 // places apart, and one rounding ends it.
 
 ghost use mathlib.Core.Path.{_≡_};
-ghost use Prim.Native.Nat.{_+_, _*_, _/_, _%_, _≤_, _^_};
+ghost use Prim.Native.Nat.{_+_, _*_, _≤_, _<_, _^_};
 ghost use lib.ListN.{length};
 ghost use Rattle.units.specs.Answers.{Ends, floatBits};
+ghost use Rattle.units.specs.Tests.{Tells};
 ghost use Rattle.exactsums.specs.Nearest.{NearestDot, rounded};
-ghost use Rattle.exactsums.specs.Work.{Accepted, Exponent, IsProduct, Given, Added, number, Sticky, Digits, Small, Level, Judged, Subtracted};
+ghost use Rattle.exactsums.specs.Work.{Sized, Accepted, Exponent, IsProduct, rowOf, Added, Taken, number, Sticky, Digits, Small, Level, Judged, Subtracted, IsDigit, sizeOf, IsHead, IsClosed};
 
-// Is the float with the pattern b 0, or from 2^-40 to 2^40 in size?
+// Is the float with the pattern b from 2^-40 to 2^40 in size?
+fn sized(b: u32) -> bool
+    ensures { λ r. ⌜ Tells (Sized b) r ⌝ }
+{
+    let size = b % 2147483648;
+    0x2b80_0000 <= size && size <= 0x5380_0000
+}
+
+// Are both?
+fn both_sized(x: u32, y: u32) -> bool
+    ensures { λ r. ⌜ Tells (Sized x × Sized y) r ⌝ }
+{
+    if sized(x) { sized(y) } else { false }
+}
+
+// Or is it 0?
 fn accepted(b: u32) -> bool
     ensures { λ r. ⌜ Accepted b r ⌝ }
 {
-    let size = b % 2147483648;
-    if size == 0 {
+    if b % 2147483648 == 0 {
         return true;
     }
-    0x2b80_0000 <= size && size <= 0x5380_0000
+    sized(b)
 }
 
 // A product, without its sign, in units of 2^-126: digits * 16^place.
@@ -38,20 +53,37 @@ fn times(x: u32, y: u32) -> Product
     }
 }
 
-// Adds the product of the floats with the patterns x and y to its bin: those above zero from bin 0 on, those below from bin 41 on.
+// Where the row starts that the product goes to: above zero at bin 0, below at bin 41.
+fn row(x: u32, y: u32) -> usize
+    ensures { λ r. ⌜ r ≡ rowOf x y ⌝ }
+{
+    if x / 2147483648 == y / 2147483648 {
+        0
+    } else {
+        41
+    }
+}
+
+// Adds the product of the floats with the patterns x and y to its bin.
 fn add(x: u32, y: u32, bins: &mut [u64; 82])
-    requires { ⌜ Given x × Given y × Small 4096 (now bins) ⌝ }
+    requires { ⌜ Sized x × Sized y × Small 4096 (now bins) ⌝ }
     ensures { λ r. ⌜ Added x y (now (bins .entry)) (now (bins .exit)) ⌝ }
 {
-    if x % 2147483648 == 0 {
-        return;
-    }
-    if y % 2147483648 == 0 {
-        return;
-    }
     let t = times(x, y);
-    let k = ((x / 2147483648 + y / 2147483648) % 2 * 41) as usize + t.place;
+    let k = row(x, y) + t.place;
     bins[k] = bins[k] + t.digits;
+}
+
+// Adds the product of two floats, one of which may be 0; false where one is refused.
+fn take(x: u32, y: u32, bins: &mut [u64; 82]) -> bool
+    requires { ⌜ Small 4096 (now bins) ⌝ }
+    ensures { λ r. ⌜ Taken x y (now (bins .entry)) (now (bins .exit)) r ⌝ }
+{
+    if both_sized(x, y) {
+        add(x, y, bins);
+        return true;
+    }
+    if accepted(x) { accepted(y) } else { false }
 }
 
 // Adds all products to the bins: 4,096 of less than 2^51 fit. Ends with false at an element that is refused.
@@ -65,13 +97,9 @@ fn gather(a: &[f32], b: &[f32], bins: &mut [u64; 82]) -> bool
         let k = i as usize;
         let x = fixed::bits_of(a[k]);
         let y = fixed::bits_of(b[k]);
-        if !accepted(x) {
+        if !take(x, y, bins) {
             return false;
         }
-        if !accepted(y) {
-            return false;
-        }
-        add(x, y, bins);
         i += 1;
     }
     true
@@ -83,17 +111,17 @@ struct Left {
     under: u64,
 }
 
-// One row of the bins less the other, as digits base 16: both rows are carried upward, and what is borrowed counts with the second.
-fn subtract(bins: &[u64; 82], first: usize, second: usize, digits: &mut [u32; 41]) -> Left
-    requires { ⌜ Small 4097 (now bins) × Digits (now digits) × (first ≤ 41) × (second ≤ 41) ⌝ }
-    ensures { λ r. ⌜ Subtracted (now (bins .entry)) (now (digits .exit)) first second (r .over) (r .under) ⌝ }
+// The first row of the bins less the second, as digits base 16: both are carried upward, and what is borrowed counts with the second.
+fn subtract(bins: &[u64; 82], digits: &mut [u32; 41]) -> Left
+    requires { ⌜ Small 4097 (now bins) × Digits (now digits) ⌝ }
+    ensures { λ r. ⌜ Subtracted (now (bins .entry)) (now (digits .exit)) (r .over) (r .under) ⌝ }
 {
     let mut over = 0;
     let mut under = 0;
     let mut j = 0;
     while j < 41 {
-        let x = bins[first + j] + over;
-        let y = bins[second + j] + under;
+        let x = bins[j] + over;
+        let y = bins[41 + j] + under;
         let low = x % 16;
         digits[j] = ((low + 16 - y % 16) % 16) as u32;
         over = x / 16;
@@ -117,33 +145,65 @@ fn rest(digits: &[u32; 41], i: usize) -> u64
     if sum == 0 { 0 } else { 1 }
 }
 
-// The pattern of the float nearest to a number of digits: the first 59 binary digits or more as a whole number, one more that says
-// whether any of the rest is set, and one rounding.
-fn rounded(top: u64, digits: &[u32; 41]) -> u32
+// A digit, or what it lacks of 15.
+fn digit(d: u32, below: bool) -> u64
+    requires { ⌜ d < 16 ⌝ }
+    ensures { λ r. ⌜ IsDigit d below r ⌝ }
+{
+    if below { (15 - d) as u64 } else { d as u64 }
+}
+
+// The first 58 binary digits or more of a number, those above the place i.
+struct First {
+    h: u64,
+    i: usize,
+}
+
+// The head of top * 16^41 + digits; below zero, less one in its last place, that of (top + 1) * 16^41 - digits.
+fn head(top: u64, digits: &[u32; 41], below: bool) -> First
     requires { ⌜ Digits (now digits) × (top ≤ 2 ^ 60) ⌝ }
-    ensures { λ r. ⌜ r ≡ floatBits (rounded ((number (now (digits .entry)) 0 41 + top * 16 ^ 41) * 2 ^ 172) 0) ⌝ }
+    ensures { λ r. ⌜ IsHead top (now (digits .entry)) below (r .h) (r .i) ⌝ }
 {
     let mut h = top;
     let mut i = 41;
-    while 0 < i && h < 288230376151711744 {
+    while 0 < i && h < 144115188075855872 {
         i -= 1;
-        h = 16 * h + digits[i] as u64;
+        h = 16 * h + digit(digits[i], below);
     }
-    fixed::even_bits(2 * h + rest(digits, i), 62 + 4 * (i as u32))
+    First { h, i }
 }
 
-// The pattern of the float nearest to the difference of the rows: of its size, and of its sign.
+// The head as it is; below zero with that one, unless something is left below it.
+fn closed(h: u64, s: u64, below: bool) -> u64
+    requires { ⌜ (h < 2 ^ 61) × (s ≤ 1) ⌝ }
+    ensures { λ r. ⌜ IsClosed h s below r ⌝ }
+{
+    if below { h + 1 - s } else { h }
+}
+
+// The pattern of the float nearest to the size of that number: its head as a whole number, one more digit that says whether any of
+// the rest is set, and one rounding.
+fn rounded(top: u64, digits: &[u32; 41], below: bool) -> u32
+    requires { ⌜ Digits (now digits) × (top ≤ 2 ^ 60) ⌝ }
+    ensures { λ r. ⌜ r ≡ floatBits (rounded (sizeOf top (now (digits .entry)) below * 2 ^ 172) 0) ⌝ }
+{
+    let t = head(top, digits, below);
+    let i = t.i;
+    let s = rest(digits, i);
+    fixed::even_bits(2 * closed(t.h, s, below) + s, 62 + 4 * (i as u32))
+}
+
+// The pattern of the float nearest to the difference of the rows.
 fn difference(bins: &[u64; 82]) -> u32
     requires { ⌜ Small 4097 (now bins) ⌝ }
     ensures { λ r. ⌜ r ≡ floatBits (rounded (number (now (bins .entry)) 0 41 * 2 ^ 172) (number (now (bins .entry)) 41 41 * 2 ^ 172)) ⌝ }
 {
     let mut digits = [1u32; 41];
-    let d = subtract(bins, 0, 41, &mut digits);
+    let d = subtract(bins, &mut digits);
     if d.under <= d.over {
-        return rounded(d.over - d.under, &digits);
+        return rounded(d.over - d.under, &digits, false);
     }
-    let e = subtract(bins, 41, 0, &mut digits);
-    2147483648 + rounded(e.over - e.under, &digits)
+    2147483648 + rounded(d.under - d.over - 1, &digits, true)
 }
 
 // The float nearest to the sum of the products a_i b_i; code 2 or 1 and nothing written where lengths or an element are refused.

@@ -18,7 +18,6 @@ use Rattle.units.proofs.Naturals.{le-or-lt}
 use Rattle.sums.specs.Sum.{above, below}
 use Rattle.sums.specs.Dot.{sumOver}
 use Rattle.exactsums.specs.Nearest.{Element, Elements, positives, negatives}
-use Rattle.exactsums.specs.Work.{number, Small, Given}
 use Rattle.exactsums.proofs.Gathering.{Underway, small-most, begun, further, ended}
 use Rattle.exactsums.proofs.gather.Statement.{statement}
 use Rattle.exactsums.proofs.gather.Tie as tie
@@ -75,65 +74,46 @@ shared-slice-read-bits-of-2 c = in-second (c .before .before .before)
 bits-of-requires-2 : tie.Need-bits-of-requires-2 Inv-loop μ-loop
 bits-of-requires-2 c κs = tt
 
-accepted-requires : tie.Need-accepted-requires Inv-loop μ-loop
-accepted-requires c κs = tt
+take-requires : tie.Need-take-requires Inv-loop μ-loop
+take-requires c κs =
+    let l = c .before .before .before .before .before in
+    let s = l .before .before .before .before in
+    small-most (place l + 1) 4096 (l .before .loop .bins) (le-trans (up (l .loop-test .taken)) (s .pre .1)) (l .before .loop .inv .small)
+  where
+    up : {i n : ℕ} → i < n → i + 1 ≤ n
+    up h = omega arith
 
--- what the tests tell
-first-tells : (c : tie.After-accepted Inv-loop μ-loop) → Tells (Element (getD (first (c .before .before .before .before .before)) (place (c .before .before .before .before .before)) nan)) (c .accepted .result)
-first-tells c = let l = c .before .before .before .before .before in c .accepted .ensures .tells (getD (first l) (place l) nan) (first-fits l) (c .before .before .before .bits-of .ensures)
+-- what the test tells
+abbrev in-loop : tie.After-take Inv-loop μ-loop → tie.In-loop Inv-loop μ-loop
+in-loop c = c .before .before .before .before .before .before
 
-second-tells : (c : tie.After-accepted2 Inv-loop μ-loop) → Tells (Element (getD (second (c .before .before .before .before .before .before .before)) (place (c .before .before .before .before .before .before .before)) nan)) (c .accepted2 .result)
-second-tells c = let l = c .before .before .before .before .before .before .before in c .accepted2 .ensures .tells (getD (second l) (place l) nan) (second-fits l) (c .before .before .before .bits-of2 .ensures)
+both : (c : tie.After-take Inv-loop μ-loop) → Tells (Element (getD (first (in-loop c)) (place (in-loop c)) nan) × Element (getD (second (in-loop c)) (place (in-loop c)) nan)) (c .take .result)
+both c =
+    let l = in-loop c in
+    c .take .ensures .tells (getD (first l) (place l) nan) (getD (second l) (place l) nan) (first-fits l) (second-fits l) (c .before .before .before .before .bits-of .ensures) (c .before .before .bits-of2 .ensures)
 
 returns : tie.Need-returns Inv-loop μ-loop
 returns c =
-    let l = c .before .before .before .before .before .before in
-    record { if-true = λ e. absurd (true≢false (sym e)); if-false = λ e r. first-tells (c .before) .if-false (not-true (c .before .accepted .result) (c .if1 .taken)) (r .first (place l) (l .loop-test .taken)) }
-
-accepted-requires-2 : tie.Need-accepted-requires-2 Inv-loop μ-loop
-accepted-requires-2 c κs = tt
-
-returns-2 : tie.Need-returns-2 Inv-loop μ-loop
-returns-2 c =
-    let l = c .before .before .before .before .before .before .before .before in
-    record { if-true = λ e. absurd (true≢false (sym e)); if-false = λ e r. second-tells (c .before) .if-false (not-true (c .before .accepted2 .result) (c .if2 .taken)) (r .second (place l) (in-second l)) }
-
--- both are accepted
-first-is : (c : tie.Else2 Inv-loop μ-loop) → Element (getD (first (c .before .before .before .before .before .before .before .before)) (place (c .before .before .before .before .before .before .before .before)) nan)
-first-is c = first-tells (c .before .before .before) .if-true (not-false (c .before .before .before .accepted .result) (c .before .before .if1 .left))
-
-second-is : (c : tie.Else2 Inv-loop μ-loop) → Element (getD (second (c .before .before .before .before .before .before .before .before)) (place (c .before .before .before .before .before .before .before .before)) nan)
-second-is c = second-tells (c .before) .if-true (not-false (c .before .accepted2 .result) (c .if2 .left))
-
-up : {i n : ℕ} → i < n → i + 1 ≤ n
-up h = omega arith
-
-add-requires : tie.Need-add-requires Inv-loop μ-loop
-add-requires c κs =
-    let e = c .before in
-    let l = e .before .before .before .before .before .before .before .before in
-    let a = e .before .before .before in
-    let s = l .before .before .before .before in (
-      record { float = getD (first l) (place l) nan; element = first-is e; bits = a .before .before .before .bits-of .ensures },
-      record { float = getD (second l) (place l) nan; element = second-is e; bits = a .before .bits-of2 .ensures },
-      small-most (place l + 1) 4096 (l .before .loop .bins) (le-trans (up (l .loop-test .taken)) (s .pre .1)) (l .before .loop .inv .small),
-    )
+    let t = c .before in
+    let l = in-loop t in
+    record { if-true = λ e. absurd (true≢false (sym e)); if-false = λ e r. both t .if-false (not-true (t .take .result) (c .if1 .taken)) (r .first (place l) (l .loop-test .taken), r .second (place l) (in-second l)) }
 
 add-i : tie.Need-add-i Inv-loop μ-loop
-add-i c = let l = c .before .before .before .before .before .before .before .before .before .before in omega (arith, l .loop-test .taken)
+add-i c = let l = in-loop (c .before) in omega (arith, l .loop-test .taken)
 
 loop-less : tie.Need-loop-less Inv-loop μ-loop
-loop-less c = let l = c .before .before .before .before .before .before .before .before .before .before in omega (arith, l .loop-test .taken)
+loop-less c = let l = in-loop (c .before) in omega (arith, l .loop-test .taken)
 
 loop-again : tie.Need-loop-again Inv-loop μ-loop
 loop-again c =
-    let e = c .before .before in
-    let l = e .before .before .before .before .before .before .before .before in
-    let t = e .before .before .before in
-    further (first l) (second l) (l .before .loop .bins) _ (place l) _ _ (l .before .loop .inv) (l .loop-test .taken) (in-second l) (first-is e) (second-is e) (t .before .before .before .bits-of .ensures) (t .before .bits-of2 .ensures) (c .add .ensures)
+    let t = c .before in
+    let l = in-loop t in
+    let yes = not-false (t .take .result) (c .if1 .left) in
+    let (x, y) = both t .if-true yes in
+    further (first l) (second l) (l .before .loop .bins) _ (place l) _ _ (l .before .loop .inv) (l .loop-test .taken) (in-second l) x y (t .before .before .before .before .bits-of .ensures) (t .before .before .bits-of2 .ensures) (t .take .ensures .added yes)
 
-returns-3 : tie.Need-returns-3 Inv-loop μ-loop
-returns-3 c =
+returns-2 : tie.Need-returns-2 Inv-loop μ-loop
+returns-2 c =
     let s = c .before .before .before .before in
     let l = c .before .loop in
     record { if-true = λ e. ended (s .args .a .now) (s .args .b .now) (l .bins) (l .i) (s .pre .0) (s .pre .1) (l .inv) (c .loop-test .left); if-false = λ e. absurd (true≢false e) }
@@ -141,4 +121,4 @@ returns-3 c =
 pub gather-spec : {M : Type 1} → statement M
 gather-spec =
     tie.close
-    (tie.spec Inv-loop μ-loop cast-n loop-holds cast-k mul-bits-of shared-slice-read-bits-of bits-of-requires mul-bits-of-2 shared-slice-read-bits-of-2 bits-of-requires-2 accepted-requires returns accepted-requires-2 returns-2 add-requires add-i loop-less loop-again returns-3)
+    (tie.spec Inv-loop μ-loop cast-n loop-holds cast-k mul-bits-of shared-slice-read-bits-of bits-of-requires mul-bits-of-2 shared-slice-read-bits-of-2 bits-of-requires-2 take-requires returns add-i loop-less loop-again returns-2)

@@ -6,23 +6,20 @@ use native.Mathlib.Numerals.{add-one}
 use native.Mathlib.Omega.{arith}
 use lib.ListN.{length, getD}
 use Rattle.exactsums.specs.Work.{number, Digits}
-use Rattle.exactsums.proofs.Bins.{number-next, number-written, digits-set, subtract-step}
+use Rattle.exactsums.proofs.Bins.{number-next, number-next₀, number-written, digits-set, subtract-step}
 use Rattle.exactsums.proofs.subtract.Statement.{statement}
 use Rattle.exactsums.proofs.subtract.Tie as tie
 
 abbrev Inv-loop : tie.InvT-loop
-Inv-loop bins first second digits₀ over₀ under₀ j₀ digits over under j =
-    (j ≤ 41) × (over ≤ 2 ^ 60) × (under ≤ 2 ^ 60) × Digits digits × (number bins first j + under * 16 ^ j ≡ number bins second j + (number digits 0 j + over * 16 ^ j))
+Inv-loop bins digits₀ over₀ under₀ j₀ digits over under j =
+    (j ≤ 41) × (over ≤ 2 ^ 60) × (under ≤ 2 ^ 60) × Digits digits × (number bins 0 j + under * 16 ^ j ≡ number bins 41 j + (number digits 0 j + over * 16 ^ j))
 
 abbrev μ-loop : tie.MeasureT-loop
-μ-loop bins first second digits₀ over₀ under₀ j₀ digits over under j = 41 - j
+μ-loop bins digits₀ over₀ under₀ j₀ digits over under j = 41 - j
 
 loop-holds : tie.Need-loop-holds Inv-loop μ-loop
 unfolding number
 loop-holds c = (omega arith, omega arith, omega arith, c .pre .1, refl)
-
-add-x : tie.Need-add-x Inv-loop μ-loop
-add-x c = omega arith
 
 mul-x : tie.Need-mul-x Inv-loop μ-loop
 mul-x c = omega arith
@@ -34,8 +31,8 @@ element-copy-out-x c = omega arith
 bin : (c : tie.In-loop Inv-loop μ-loop) (i : ℕ) → getD (c .before .before .args .bins .now) i 0 ≤ 4097 * 2 ^ 51
 bin c i = c .before .before .pre .0 .each i
 
-add-x-2 : tie.Need-add-x-2 Inv-loop μ-loop
-add-x-2 c = omega (arith, bin (c .before) (c .before .before .before .args .first + c .before .before .loop .j))
+add-x : tie.Need-add-x Inv-loop μ-loop
+add-x c = omega (arith, bin (c .before) (c .before .before .loop .j))
 
 add-y : tie.Need-add-y Inv-loop μ-loop
 add-y c = omega arith
@@ -47,7 +44,7 @@ element-copy-out-y : tie.Need-element-copy-out-y Inv-loop μ-loop
 element-copy-out-y c = omega arith
 
 add-y-2 : tie.Need-add-y-2 Inv-loop μ-loop
-add-y-2 c = omega (arith, bin (c .before .before) (c .before .before .before .before .args .second + c .before .before .before .loop .j))
+add-y-2 c = omega (arith, bin (c .before .before) (41 + c .before .before .before .loop .j))
 
 add-digits : tie.Need-add-digits Inv-loop μ-loop
 add-digits c = omega arith
@@ -65,7 +62,7 @@ element-write-digits : tie.Need-element-write-digits Inv-loop μ-loop
 element-write-digits c = omega arith
 
 add-under : tie.Need-add-under Inv-loop μ-loop
-add-under c = omega (arith, bin (c .before .before) (c .before .before .before .before .args .second + c .before .before .before .loop .j))
+add-under c = omega (arith, bin (c .before .before) (41 + c .before .before .before .loop .j))
 
 sub-under : tie.Need-sub-under Inv-loop μ-loop
 sub-under c = omega arith
@@ -90,25 +87,25 @@ loop-again c =
     let bins = a .bins .now in
     let ds = l .digits in
     let j = l .j in
-    let f = getD bins (a .first + j) 0 in
-    let g = getD bins (a .second + j) 0 in
+    let f = getD bins j 0 in
+    let g = getD bins (41 + j) 0 in
     let d = ((f + l .over) % 16 + 16 - (g + l .under) % 16) % 16 in
     let h = l .inv .3 in (
       omega arith,
-      carried (bin (c .before .before) (a .first + j)) (l .inv .1),
-      borrowed ((f + l .over) % 16) (bin (c .before .before) (a .second + j)) (l .inv .2),
+      carried (bin (c .before .before) j) (l .inv .1),
+      borrowed ((f + l .over) % 16) (bin (c .before .before) (41 + j)) (l .inv .2),
       digits-set ds j d h (c .before .before .loop-test .taken) (omega arith),
-      rw (number-next bins (a .first) j, number-next bins (a .second) j, number-written ds j d (omega (arith, h .long)), add-one j, pow-suc 16 j)
-          (subtract-step (number bins (a .first) j) (number bins (a .second) j) (number ds 0 j) (16 ^ j) f g (l .over) (l .under) (l .inv .4)),
+      rw (number-next₀ bins j, number-next bins 41 j, number-written ds j d (omega (arith, h .long)), add-one j, pow-suc 16 j)
+          (subtract-step (number bins 0 j) (number bins 41 j) (number ds 0 j) (16 ^ j) f g (l .over) (l .under) (l .inv .4)),
     )
 
 returns : tie.Need-returns Inv-loop μ-loop
 returns c =
     let l = c .before .loop in
     let e : l .j ≡ 41 = omega arith in
-    record { same = rw e at (l .inv .4); digits-each = l .inv .3; room = l .inv .1 }
+    record { same = rw e at (l .inv .4); digits-each = l .inv .3; over-small = l .inv .1; under-small = l .inv .2 }
 
 pub subtract-spec : {M : Type 1} → statement M
 subtract-spec =
     tie.close
-    (tie.spec Inv-loop μ-loop loop-holds add-x mul-x element-copy-out-x add-x-2 add-y mul-y element-copy-out-y add-y-2 add-digits sub-digits cast-digits mul-digits element-write-digits add-under sub-under add-j loop-less loop-again returns)
+    (tie.spec Inv-loop μ-loop loop-holds mul-x element-copy-out-x add-x add-y mul-y element-copy-out-y add-y-2 add-digits sub-digits cast-digits mul-digits element-write-digits add-under sub-under add-j loop-less loop-again returns)
