@@ -5,3 +5,5 @@ pub mod Heads
 pub mod Gathering
 pub mod Ending
 pub mod Promise
+pub mod Order
+pub mod Asked

@@ -1,4 +1,4 @@
--- The promise, for each way in which the program returns, and what follows from it: any order of adding gives the same float. Assumes nothing.
+-- The promise, for each way in which the program returns. Assumes nothing.
 use mathlib.Core.Path.{_≡_, refl, sym, ap, ap₂, _∙_, subst}
 use mathlib.Core.Logic.{_⊎_, inl, inr}
 use mathlib.Core.List.{List, [], _∷_}
@@ -135,7 +135,7 @@ is-zero : (p n : ℕ) → p ≡ n → rounded p n ≡ ofBits binary32 0
 is-zero p n e = rounded-plus p n 0 (e ∙ sym (zero-add n)) ∙ float-zero
 
 -- equal differences round alike
-same-difference : (p n q m : ℕ) → p + m ≡ q + n → rounded p n ≡ rounded q m
+pub same-difference : (p n q m : ℕ) → p + m ≡ q + n → rounded p n ≡ rounded q m
 same-difference p n q m e = elim (le-or-lt n p) [
   | inl l ↦ rounded-plus p n (p - n) (omega arith) ∙ sym (rounded-plus q m (p - n) (omega arith))
   | inr l ↦ rounded-minus p n (n - p) (omega arith) (omega arith) ∙ sym (rounded-minus q m (n - p) (omega arith) (omega arith))
@@ -217,30 +217,3 @@ module _ (a b : List Float) {before : ℕ} where
 
   pub refused-element : Lengths a b → ¬ Elements a b → Ends floatBits (NearestDot a b) 1 before before
   refused-element l n = refused 1 (λ z. omega arith) (λ h. n (h .elements)) (λ m. absurd (m l)) (λ g m. refl)
-
--- ---- the result depends on the exact sum alone
--- two pairs of accepted lists with one exact sum have one result
-pub same-sum : (a b c d : List Float) (r s : Float) → Accepts a b → Accepts c d → NearestDot a b 0 r → NearestDot c d 0 s → positives a b + negatives c d ≡ positives c d + negatives a b → r ≡ s
-same-sum a b c d r s h k x y e = x .value h ∙ same-difference (positives a b) (negatives a b) (positives c d) (negatives c d) e ∙ sym (y .value k)
-
--- the pairs of elements in another order
-pub data Reordered : List Float → List Float → List Float → List Float → Type 0 where
-  as-it-is : {a b : List Float} → Reordered a b a b
-  swapped : {x y u w : Float} {a b : List Float} → Reordered (x ∷ u ∷ a) (y ∷ w ∷ b) (u ∷ x ∷ a) (w ∷ y ∷ b)
-  after : {x y : Float} {a b c d : List Float} → Reordered a b c d → Reordered (x ∷ a) (y ∷ b) (x ∷ c) (y ∷ d)
-  then : {a b c d e f : List Float} → Reordered a b c d → Reordered c d e f → Reordered a b e f
-
--- have the same exact sum
-reordered-sum : (f : Float → Float → ℕ) {a b c d : List Float} → Reordered a b c d → sumOver f a b ≡ sumOver f c d
-unfolding sumOver
-reordered-sum f as-it-is = refl
-reordered-sum f (swapped {x = x} {y = y} {u = u} {w = w} {a = a} {b = b}) = turn (f x y) (f u w) (sumOver f a b)
-  where
-    turn : (i j k : ℕ) → i + (j + k) ≡ j + (i + k)
-    turn i j k = omega arith
-reordered-sum f (after {x = x} {y = y} h) = ap (λ (n : ℕ). f x y + n) (reordered-sum f h)
-reordered-sum f (then h k) = reordered-sum f h ∙ reordered-sum f k
-
--- so in whatever order the products are added, the result is the same float
-pub any-order : (a b c d : List Float) (r s : Float) → Reordered a b c d → Accepts a b → Accepts c d → NearestDot a b 0 r → NearestDot c d 0 s → r ≡ s
-any-order a b c d r s o h k x y = same-sum a b c d r s h k x y (ap₂ (λ (u v : ℕ). u + v) (reordered-sum above o) (sym (reordered-sum below o)))
