@@ -13,7 +13,7 @@ use lib.Ieee.Bits.{toBits-lt}
 use lib.Ieee.Fits.{round-fits}
 use Rattle.units.specs.Answers.{floatBits}
 use Rattle.exactsums.specs.Nearest.{rounded}
-use Rattle.exactsums.specs.Work.{number, Digits, Small, Level, Subtracted, sizeOf}
+use Rattle.exactsums.specs.Work.{number, Digits, Level, Subtracted, sizeOf}
 use Rattle.exactsums.proofs.Bins.{number-less}
 use Rattle.exactsums.proofs.Rounding.{float, turned, rounded-plus, rounded-minus}
 

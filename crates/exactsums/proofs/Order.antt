@@ -1,14 +1,14 @@
 -- What follows from the promise: the result depends on the exact sum alone, so that any order of adding gives the same float. Assumes nothing.
 use mathlib.Core.Path.{_≡_, refl, sym, ap, ap₂, _∙_}
-use mathlib.Core.List.{List, [], _∷_}
-use Prim.Native.Nat.{ℕ, zero, suc, _+_, _≤_, _<_}
+use mathlib.Core.List.{List, _∷_}
+use Prim.Native.Nat.{ℕ, zero, suc, _+_, _<_}
 use native.Mathlib.Nat.{le-trans, le-of-eq}
 use native.Mathlib.Omega.{arith}
 use lib.ListN.{length, getD}
 use lib.Ieee.{Float, nan}
 use Rattle.sums.specs.Sum.{above, below}
 use Rattle.sums.specs.Dot.{sumOver}
-use Rattle.exactsums.specs.Nearest.{Lengths, Element, Elements, Accepts, NearestDot, positives, negatives}
+use Rattle.exactsums.specs.Nearest.{Element, Accepts, NearestDot, positives, negatives}
 use Rattle.exactsums.proofs.Promise.{same-difference}
 
 -- two pairs of accepted lists with one exact sum have one result

@@ -1,16 +1,16 @@
 -- Accepted floats by their patterns: the tests, and the exact product of two of them in its bin's units. Assumes nothing.
-use mathlib.Core.Path.{_≡_, refl, sym, ap, ap₂, _∙_, subst}
+use mathlib.Core.Path.{_≡_, sym, ap, ap₂, _∙_}
 use mathlib.Core.Logic.{_⊎_, inl, inr}
 use mathlib.Core.List.{List}
 use mathlib.Core.Bool.{Bool, true, false, cond}
-use Prim.Native.Nat.{ℕ, zero, suc, _+_, _-_, _*_, _/_, _%_, _^_, _≤_, _<_, zero-le}
-use native.Mathlib.Nat.{eq-zero-or-pos, le-trans, le-of-eq, lt-of-lt-of-le, lt-of-le-of-lt, not-le-of-lt, zero-add, add-zero, zero-mul, mul-zero, mul-pos, add-mul, mul-assoc, mul-comm, mul-one}
+use Prim.Native.Nat.{ℕ, zero, suc, _+_, _-_, _*_, _/_, _%_, _^_, _≤_, _<_}
+use native.Mathlib.Nat.{eq-zero-or-pos, le-of-eq, lt-of-le-of-lt, not-le-of-lt, zero-add, add-zero, zero-mul, mul-zero, mul-pos, add-mul, mul-assoc}
 use native.Mathlib.Omega.{arith}
 use lib.Dec.{T}
 use lib.ListN.{length, getD, set}
 use lib.Pow.{pow-add, pow-pos}
-use lib.Ieee.{Float, binary32, fits, toBits}
-use Rattle.units.specs.Units.{mag, negative, P, N, Number}
+use lib.Ieee.{Float, binary32, fits}
+use Rattle.units.specs.Units.{mag, negative, Number}
 use Rattle.units.specs.Answers.{floatBits}
 use Rattle.units.specs.Tests.{Tells}
 use Rattle.units.proofs.Naturals.{le-or-lt}

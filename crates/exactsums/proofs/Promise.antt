@@ -1,12 +1,11 @@
 -- The promise, for each way in which the program returns. Assumes nothing.
-use mathlib.Core.Path.{_≡_, refl, sym, ap, ap₂, _∙_, subst}
+use mathlib.Core.Path.{_≡_, refl, sym, ap, ap₂, _∙_}
 use mathlib.Core.Logic.{_⊎_, inl, inr}
-use mathlib.Core.List.{List, [], _∷_}
-use mathlib.Core.Bool.{Bool, true, false, cond}
+use mathlib.Core.List.{List}
 use Prim.Native.Nat.{ℕ, _+_, _-_, _*_, _%_, _^_, _≤_, _<_, zero-le}
 use native.Mathlib.Nat.{le-trans, le-of-eq, le-of-lt, le-antisymm, add-comm, lt-of-lt-of-le, lt-of-le-of-lt, zero-add, add-zero, add-mul, add-le-add, mul-one, mul-assoc, mul-right-comm, mul-le-mul-right, le-of-mul-le-mul-right, lt-of-mul-lt-mul-right}
 use native.Mathlib.Omega.{arith}
-use lib.Dec.{T, ltb, lit≤, lit<}
+use lib.Dec.{ltb, lit≤, lit<}
 use lib.Pow.{pow-pos}
 use borrow.Author.Tests.{le-ltb, lt-ltb}
 use lib.Ieee.{Float, binary32, ofBits}
@@ -15,15 +14,13 @@ use Rattle.units.specs.Units.{P, N, Number}
 use Rattle.units.specs.Answers.{Ends, floatBits}
 use Rattle.units.proofs.Naturals.{le-or-lt}
 use Rattle.units.proofs.Answers.{written, untouched}
-use Rattle.units.proofs.Near.{Near}
 use Rattle.units.proofs.Result.{Rounds, rounds-of, rounds-bounded, rounds-whole}
 use Rattle.units.proofs.Nearest.{rounds-nearest}
 use Rattle.units.proofs.Ties.{rounds-even}
-use Rattle.sums.specs.Sum.{above, below, apart}
-use Rattle.sums.specs.Dot.{sumOver}
+use Rattle.sums.specs.Sum.{apart}
 use Rattle.sums.proofs.Apart.{near-apart, apart-least, apart-scaled}
 use Rattle.exactsums.specs.Nearest.{Lengths, Elements, Accepts, NearestDot, positives, negatives, rounded, distance}
-use Rattle.exactsums.specs.Work.{number, Small, Gathered}
+use Rattle.exactsums.specs.Work.{number, Gathered}
 use Rattle.exactsums.proofs.Bins.{number-most}
 use Rattle.exactsums.proofs.Rounding.{rounded-plus, rounded-minus, float-zero}
 

@@ -1,8 +1,8 @@
 -- The last rounding: the first digits of an exact sum and one more, which says whether anything is left, round as the sum itself. Assumes nothing.
 use mathlib.Core.Path.{_≡_, refl, sym, ap, ap₂, _∙_, subst}
 use mathlib.Core.Logic.{_⊎_, inl, inr}
-use mathlib.Core.Bool.{Bool, true, false, cond}
-use Prim.Native.Nat.{ℕ, suc, _+_, _-_, _*_, _/_, _^_, _≤_, _<_, zero-le}
+use mathlib.Core.Bool.{Bool, true, false}
+use Prim.Native.Nat.{ℕ, suc, _+_, _-_, _*_, _/_, _^_, _≤_, _<_}
 use native.Mathlib.Nat.{le-trans, le-of-eq, lt-of-lt-of-le, lt-of-le-of-lt, le-of-lt, min-eq-left, mul-assoc, mul-comm, mul-pos, mul-le-mul-left, mul-le-mul-right, mul-lt-mul-of-pos-right, eq-zero-or-pos, mul-zero, zero-mul, zero-add, add-zero, add-comm}
 use native.Mathlib.Omega.{arith}
 use lib.Dec.{lit<, lit≤}
@@ -17,7 +17,7 @@ use Rattle.units.proofs.Naturals.{pow-back-lt}
 use Rattle.units.proofs.Size.{mag-lt}
 use Rattle.units.proofs.Round.{rnd, rnd-same, rnd-upto}
 use Rattle.units.proofs.Nearest.{rnd-at}
-use Rattle.units.proofs.Rounded.{cap, cap-under, round-mag, round-sign, round-number}
+use Rattle.units.proofs.Rounded.{cap, round-mag, round-sign, round-number}
 use Rattle.units.proofs.Bits.{Is, signBit, pattern, no-nan, no-nan-positive}
 use Rattle.units.proofs.Patterns.{pattern-back}
 use Rattle.units.proofs.Ties.{sticky}

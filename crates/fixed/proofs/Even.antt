@@ -1,11 +1,11 @@
 -- Rounding with ties to even: the digits are the nearest whole number, and the float put together is n * 2 ^ (e - 40) units rounded as the float unit rounds. Assumes nothing.
 use mathlib.Core.Path.{_≡_, refl, sym, ap, _∙_, subst}
 use mathlib.Core.Logic.{inl, inr}
-use mathlib.Core.Bool.{Bool, false, cond}
-use Prim.Native.Nat.{ℕ, suc, _+_, _-_, _*_, _/_, _%_, _^_, _≤_, _<_, zero-le}
-use native.Mathlib.Nat.{le-trans, le-of-eq, lt-of-lt-of-le, lt-of-le-of-lt, eq-zero-or-pos, mul-one, mul-assoc, mul-pos, mul-le-mul-right, mul-lt-mul-of-pos-right, not-le-of-lt, pow-suc}
+use mathlib.Core.Bool.{Bool}
+use Prim.Native.Nat.{ℕ, suc, _+_, _-_, _*_, _/_, _%_, _^_, _≤_, _<_}
+use native.Mathlib.Nat.{le-trans, le-of-eq, eq-zero-or-pos, mul-one, mul-assoc, mul-pos, mul-le-mul-right, mul-lt-mul-of-pos-right, not-le-of-lt, pow-suc}
 use native.Mathlib.Omega.{arith}
-use lib.Pow.{pow-add, pow-pos, pow-mono}
+use lib.Pow.{pow-add, pow-pos}
 use lib.Count.{leadingZeros}
 use lib.Dec.{lit<}
 use borrow.Author.Tests.{eq-eqb}
@@ -13,7 +13,7 @@ use lib.Ieee.{binary32, ofBits}
 use lib.Ieee.Nearest.{closest, closest-same}
 use Rattle.units.proofs.Round.{rnd}
 use Rattle.units.proofs.Nearest.{rnd-at}
-use Rattle.units.proofs.Ties.{Closest, closest-only}
+use Rattle.units.proofs.Ties.{closest-only}
 use Rattle.units.proofs.Bits.{Is, signBit, put}
 use Rattle.fixed.specs.Rounded.{Normal, evenDigits, evenBits}
 use Rattle.fixed.proofs.Rounding.{Placed, placed, few-zeros, some}

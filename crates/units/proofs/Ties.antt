@@ -3,10 +3,10 @@ use mathlib.Core.Path.{_≡_, refl, sym, ap, _∙_, subst}
 use mathlib.Core.Logic.{_⊎_, inl, inr}
 use mathlib.Core.Bool.{not}
 use Prim.Native.Nat.{ℕ, suc, _+_, _-_, _*_, _/_, _%_, _^_, _≤_, _<_, zero-le, compare, Ordering, Ordering·lt, Ordering·eq, Ordering·gt}
-use native.Mathlib.Nat.{le-trans, le-of-eq, le-of-lt, le-antisymm, add-comm, eq-or-lt-of-le, lt-of-lt-of-le, lt-of-le-of-lt, not-le-of-lt, mod-lt, div-add-mod', mul-pos, mul-assoc, mul-le-mul-right, mul-le-mul-left, le-of-mul-le-mul-right, mul-lt-mul-of-pos-right, sub-eq-zero-of-le, zero-mul, mul-one, div-mul-le-self, lt-div-mul-add}
+use native.Mathlib.Nat.{le-trans, le-of-eq, le-of-lt, le-antisymm, add-comm, eq-or-lt-of-le, lt-of-le-of-lt, mod-lt, div-add-mod', mul-pos, mul-assoc, mul-le-mul-right, mul-le-mul-left, le-of-mul-le-mul-right, zero-mul, div-mul-le-self, lt-div-mul-add}
 use native.Mathlib.Omega.{arith}
-use lib.Dec.{T, isLe, isEq, eqb, leb→le, nleb→lt, eqb→eq, eqb-refl}
-use lib.Pow.{pow-add, pow-pos, pow-mono}
+use lib.Dec.{T, isLe, isEq, eqb, leb→le, nleb→lt, eqb-refl}
+use lib.Pow.{pow-pos, pow-mono}
 use lib.Ieee.{Float, binary32, toBits, nearest}
 use lib.Ieee.Fits.{nearest-le}
 use lib.Ieee.Nearest.{closest, nearest-ge}
@@ -18,7 +18,7 @@ use Rattle.units.proofs.Near.{Near}
 use Rattle.units.proofs.Size.{mag-digits}
 use Rattle.units.proofs.Signs.{sides, size-sum}
 use Rattle.units.proofs.Patterns.{Shape, packed-of}
-use Rattle.units.proofs.Round.{rnd, kept-le, rnd-upto, rnd-zero, rnd-half, closest-half}
+use Rattle.units.proofs.Round.{rnd, kept-le, rnd-half, closest-half}
 use Rattle.units.proofs.Result.{Rounds, rounds-plus, rounds-minus, rounds-nonpositive, rounds-nonnegative}
 use Rattle.units.proofs.Nearest.{steps, below, above, one-of-two, rnd-nearest}
 

@@ -1,5 +1,4 @@
 -- `exactsums::accepted` tells whether a pattern is that of an accepted float. Assumes nothing.
-use mathlib.Core.Path.{_≡_}
 use mathlib.Core.Bool.{true≢false}
 use Rattle.exactsums.proofs.Patterns.{accepts-zero, tells-sized}
 use Rattle.exactsums.proofs.accepted.Statement.{statement}

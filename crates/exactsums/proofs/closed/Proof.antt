@@ -2,7 +2,6 @@
 use mathlib.Core.Path.{refl, sym, _∙_}
 use mathlib.Core.Bool.{true≢false}
 use native.Mathlib.Omega.{arith}
-use borrow.Author.Needs.{needs}
 use Rattle.exactsums.proofs.closed.Statement.{statement}
 use Rattle.exactsums.proofs.closed.Tie as tie
 

@@ -1,23 +1,17 @@
 -- `exactsums::gather` meets its contract. The loop's invariant: the elements passed are accepted, and what is in the bins and what is to come are the whole sum. Assumes nothing.
-use mathlib.Core.Path.{_≡_, refl, sym, ap, _∙_}
+use mathlib.Core.Path.{sym}
 use mathlib.Core.List.{List}
-use mathlib.Core.Bool.{Bool, true, false, true≢false}
-use mathlib.Core.Logic.{inl, inr}
-use Prim.Native.Nat.{ℕ, _+_, _-_, _*_, _^_, _≤_, _<_, zero-le}
+use mathlib.Core.Bool.{true, true≢false}
+use Prim.Native.Nat.{ℕ, _+_, _-_, _≤_, _<_}
 use native.Mathlib.Nat.{lt-of-lt-of-le, lt-of-le-of-lt, le-of-eq, le-trans}
-use native.Mathlib.Numerals.{add-one}
 use native.Mathlib.Omega.{arith}
 use lib.Dec.{T, lit<}
-use lib.ListN.{length, getD, drop}
+use lib.ListN.{length, getD}
 use lib.Ieee.{Float, nan, binary32, fits}
 use borrow.Author.Needs.{needs, scaled-fits}
 use borrow.Author.Tests.{not-true, not-false}
 use Rattle.units.specs.Tests.{Tells}
-use Rattle.units.specs.Answers.{floatBits}
-use Rattle.units.proofs.Naturals.{le-or-lt}
-use Rattle.sums.specs.Sum.{above, below}
-use Rattle.sums.specs.Dot.{sumOver}
-use Rattle.exactsums.specs.Nearest.{Element, Elements, positives, negatives}
+use Rattle.exactsums.specs.Nearest.{Element}
 use Rattle.exactsums.proofs.Gathering.{Underway, small-most, begun, further, ended}
 use Rattle.exactsums.proofs.gather.Statement.{statement}
 use Rattle.exactsums.proofs.gather.Tie as tie

@@ -4,7 +4,6 @@ use mathlib.Core.Bool.{true, false}
 use Prim.Native.Nat.{ℕ, _+_, _-_, _*_, _^_, _≤_, _<_}
 use native.Mathlib.Omega.{arith}
 use borrow.Author.Tests.{ltb-true, ltb-false}
-use lib.ListN.{getD}
 use Rattle.exactsums.specs.Work.{number, sizeOf}
 use Rattle.exactsums.proofs.Bins.{number-none}
 use Rattle.exactsums.proofs.Heads.{start-plus, start-minus, next-plus, next-minus}

@@ -1,7 +1,6 @@
 -- `exactsums::rounded` meets its contract: head and rest round as the whole. Assumes nothing.
-use mathlib.Core.Path.{_≡_, _∙_}
-use mathlib.Core.List.{List}
-use Prim.Native.Nat.{ℕ, _+_, _*_, _^_, _≤_, _<_}
+use mathlib.Core.Path.{_∙_}
+use Prim.Native.Nat.{_+_, _*_, _^_, _<_}
 use native.Mathlib.Omega.{arith}
 use Rattle.exactsums.specs.Work.{sizeOf}
 use Rattle.exactsums.proofs.Heads.{Ready, ready, sticky-bit, ready-small, ready-normal, ready-rounds}

@@ -7,13 +7,11 @@ use Rattle.exactsums.proofs.sized.Tie as tie
 
 returns : tie.Need-returns
 returns c =
-    let size = c .before .args .b % 2147483648 in
-    record { if-true = λ e. record { least = c .if1 .taken; most = leb-true size 1400897536 e }; if-false = λ e h. not-le-of-lt (leb-false size 1400897536 e) (h .most) }
+    record { if-true = λ e. record { least = c .if1 .taken; most = leb-true _ _ e }; if-false = λ e h. not-le-of-lt (leb-false _ _ e) (h .most) }
 
 returns-2 : tie.Need-returns-2
 returns-2 c =
-    let size = c .before .args .b % 2147483648 in
-    record { if-true = λ e. absurd (not-le-of-lt (c .if1 .left) (leb-true 729808896 size e)); if-false = λ e h. not-le-of-lt (c .if1 .left) (h .least) }
+    record { if-true = λ e. absurd (not-le-of-lt (c .if1 .left) (leb-true _ _ e)); if-false = λ e h. not-le-of-lt (c .if1 .left) (h .least) }
 
 pub sized-spec : {M : Type 1} → statement M
 sized-spec = tie.close (tie.spec returns returns-2)

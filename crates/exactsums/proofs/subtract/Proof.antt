@@ -1,10 +1,10 @@
 -- `exactsums::subtract` meets its contract. The loop's invariant: so far the rows differ by the digits, what was carried and what was borrowed. Assumes nothing.
 use mathlib.Core.Path.{_≡_, refl}
-use Prim.Native.Nat.{ℕ, _+_, _-_, _*_, _/_, _%_, _^_, _≤_, _<_}
+use Prim.Native.Nat.{ℕ, _+_, _-_, _*_, _/_, _%_, _^_, _≤_}
 use native.Mathlib.Nat.{pow-suc}
 use native.Mathlib.Numerals.{add-one}
 use native.Mathlib.Omega.{arith}
-use lib.ListN.{length, getD}
+use lib.ListN.{getD}
 use Rattle.exactsums.specs.Work.{number, Digits}
 use Rattle.exactsums.proofs.Bins.{number-next, number-next₀, number-written, digits-set, subtract-step}
 use Rattle.exactsums.proofs.subtract.Statement.{statement}
