@@ -1,4 +1,4 @@
--- What the program's parts do on the way. A reader of the promise need not read this. Definitions only.
+-- What the program's parts do on the way. A reader of the promises need not read this. Definitions only.
 use mathlib.Core.Path.{_≡_}
 use mathlib.Core.Logic.{_⊎_}
 use mathlib.Core.List.{List}
