@@ -4,9 +4,9 @@ use mathlib.Core.Logic.{_⊎_, inl, inr}
 use mathlib.Core.List.{List}
 use mathlib.Core.Bool.{Bool, true, false, cond}
 use Prim.Native.Nat.{ℕ, zero, suc, _+_, _-_, _*_, _/_, _%_, _^_, _≤_, _<_}
-use native.Mathlib.Nat.{eq-zero-or-pos, le-of-eq, lt-of-le-of-lt, not-le-of-lt, zero-add, add-zero, zero-mul, mul-zero, mul-pos, add-mul, mul-assoc}
+use native.Mathlib.Nat.{le-trans, eq-zero-or-pos, le-of-eq, lt-of-le-of-lt, not-le-of-lt, zero-add, add-zero, zero-mul, mul-zero, mul-pos, add-mul, mul-assoc}
 use native.Mathlib.Omega.{arith}
-use lib.Dec.{T}
+use lib.Dec.{T, lit≤}
 use lib.ListN.{length, getD, set}
 use lib.Pow.{pow-add, pow-pos}
 use lib.Ieee.{Float, binary32, fits}
@@ -44,7 +44,7 @@ module _ (x : Float) where
 
   -- of an accepted float that is not 0 it lies between those of 2 ^ -40 and 2 ^ 40
   pub sized-of : Element x → ¬ (t ≡ 0) → Sized (floatBits x)
-  sized-of r z = elim (r .size) [ inl e ↦ absurd (z (size-zero (r .number) e)) | inr (lo, hi) ↦ record { least = least lo; most = most hi } ]
+  sized-of r z = elim (r .size) [ inl e ↦ absurd (z (size-zero (r .number) e)) | inr (lo, hi) ↦ record { least = le-trans (lit≤ tt) (least lo); most = le-trans (most hi) (lit≤ tt) } ]
     where
       least : 2 ^ 109 ≤ mag x → 729808896 ≤ t
       least lo = elim (le-or-lt 729808896 t) [
@@ -63,9 +63,10 @@ module _ (x : Float) where
     -- and what lies between
     pub accepts-sized : Sized (floatBits x) → Element x
     accepts-sized h =
-        let (n, m) = within 8388608 166 (first 166) x (omega arith) f (h .most) in
+        let (n, m) = within 8388608 166 (first 166) x (omega arith) f (le-trans (h .most) (lit≤ tt)) in
         let p = packed-of x n in
-        record { number = n; size = inr (rw (p .units) (packed-le 8388608 86 (p .m) (p .k) (first 86) (p .shape) (rw (p .size-bits) at (h .least))), m) }
+        let l : 729808896 ≤ t = le-trans (lit≤ tt) (h .least) in
+        record { number = n; size = inr (rw (p .units) (packed-le 8388608 86 (p .m) (p .k) (first 86) (p .shape) (rw (p .size-bits) at l)), m) }
 
     -- so the test of that tells of any other
     pub tells-sized : {answer : Bool} → ¬ (t ≡ 0) → Tells (Sized (floatBits x)) answer → Tells (Element x) answer

@@ -44,7 +44,7 @@ turned c =
     ap (λ (n : ℕ). 2147483648 + n) (c .rounded2 .ensures) ∙ negative (rows c) _ (s .subtract .result .over) (s .subtract .result .under) (s .subtract .ensures) (e .if1 .left)
 
 add-result : tie.Need-add-result
-add-result c = record { fits = lt-of-le-of-lt (le-of-eq (turned c)) (pattern-fits (number (rows c) 0 41 * 2 ^ 172) (number (rows c) 41 41 * 2 ^ 172)) }
+add-result c = let l = lt-of-le-of-lt (le-of-eq (turned c)) (pattern-fits (number (rows c) 0 41 * 2 ^ 172) (number (rows c) 41 41 * 2 ^ 172)) in omega (arith, l)
 
 returns-2 : tie.Need-returns-2
 returns-2 c = turned c

@@ -73,13 +73,6 @@ add-j c = omega arith
 loop-less : tie.Need-loop-less Inv-loop μ-loop
 loop-less c = omega arith
 
--- what is carried on and borrowed stays below 2 ^ 60
-carried : {f over : ℕ} → f ≤ 4097 * 2 ^ 51 → over ≤ 2 ^ 60 → (f + over) / 16 ≤ 2 ^ 60
-carried l m = omega arith
-
-borrowed : {g under : ℕ} (low : ℕ) → g ≤ 4097 * 2 ^ 51 → under ≤ 2 ^ 60 → (g + under + 15 - low) / 16 ≤ 2 ^ 60
-borrowed low l m = omega arith
-
 loop-again : tie.Need-loop-again Inv-loop μ-loop
 loop-again c =
     let l = c .before .before .before .loop in
@@ -92,8 +85,8 @@ loop-again c =
     let d = ((f + l .over) % 16 + 16 - (g + l .under) % 16) % 16 in
     let h = l .inv .3 in (
       omega arith,
-      carried (bin (c .before .before) j) (l .inv .1),
-      borrowed ((f + l .over) % 16) (bin (c .before .before) (41 + j)) (l .inv .2),
+      omega (arith, bin (c .before .before) j),
+      omega (arith, bin (c .before .before) (41 + j)),
       digits-set ds j d h (c .before .before .loop-test .taken) (omega arith),
       rw (number-next₀ bins j, number-next bins 41 j, number-written ds j d (omega (arith, h .long)), add-one j, pow-suc 16 j)
           (subtract-step (number bins 0 j) (number bins 41 j) (number ds 0 j) (16 ^ j) f g (l .over) (l .under) (l .inv .4)),
