@@ -118,12 +118,13 @@ fn subtract(bins: &[u64; 82], digits: &mut [u32; 41]) -> Left
 {
     let mut over = 0;
     let mut under = 0;
-    let mut j = 0;
+    let mut j: u32 = 0;
     while j < 41 {
-        let x = bins[j] + over;
-        let y = bins[41 + j] + under;
+        let k = j as usize;
+        let x = bins[k] + over;
+        let y = bins[41 + k] + under;
         let low = x % 16;
-        digits[j] = ((low + 16 - y % 16) % 16) as u32;
+        digits[k] = ((low + 16 - y % 16) % 16) as u32;
         over = x / 16;
         under = (y + 15 - low) / 16;
         j += 1;
@@ -132,14 +133,15 @@ fn subtract(bins: &[u64; 82], digits: &mut [u32; 41]) -> Left
 }
 
 // 0 where the lowest i digits are all 0, and else 1.
-fn rest(digits: &[u32; 41], i: usize) -> u64
+fn rest(digits: &[u32; 41], i: u32) -> u64
     requires { ⌜ Digits (now digits) × (i ≤ 41) ⌝ }
     ensures { λ r. ⌜ Sticky (number (now (digits .entry)) 0 i) r ⌝ }
 {
     let mut sum = 0;
-    let mut j = 0;
+    let mut j: u32 = 0;
     while j < i {
-        sum += digits[j];
+        let k = j as usize;
+        sum += digits[k];
         j += 1;
     }
     if sum == 0 { 0 } else { 1 }
@@ -156,7 +158,7 @@ fn digit(d: u32, below: bool) -> u64
 // The first 58 binary digits or more of a number, those above the place i.
 struct First {
     h: u64,
-    i: usize,
+    i: u32,
 }
 
 // The head of top * 16^41 + digits; below zero, less one in its last place, that of (top + 1) * 16^41 - digits.
@@ -165,10 +167,11 @@ fn head(top: u64, digits: &[u32; 41], below: bool) -> First
     ensures { λ r. ⌜ IsHead top (now (digits .entry)) below (r .h) (r .i) ⌝ }
 {
     let mut h = top;
-    let mut i = 41;
+    let mut i: u32 = 41;
     while 0 < i && h < 144115188075855872 {
         i -= 1;
-        h = 16 * h + digit(digits[i], below);
+        let k = i as usize;
+        h = 16 * h + digit(digits[k], below);
     }
     First { h, i }
 }
@@ -190,7 +193,7 @@ fn rounded(top: u64, digits: &[u32; 41], below: bool) -> u32
     let t = head(top, digits, below);
     let i = t.i;
     let s = rest(digits, i);
-    fixed::even_bits(2 * closed(t.h, s, below) + s, 62 + 4 * (i as u32))
+    fixed::even_bits(2 * closed(t.h, s, below) + s, 62 + 4 * i)
 }
 
 // The pattern of the float nearest to the difference of the rows.

@@ -36,6 +36,9 @@ loop-holds c = (omega arith, under (c .pre .1), start-plus (c .args .top) (c .ar
 sub-i : tie.Need-sub-i Inv-loop μ-loop
 sub-i c = c .before .loop-test .taken
 
+cast-k : tie.Need-cast-k Inv-loop μ-loop
+cast-k c = omega arith
+
 -- h before the step
 short : (c : tie.Then1 Inv-loop μ-loop) → c .before .before .loop .h < 144115188075855872
 short c = ltb-true (c .before .before .loop .h) 144115188075855872 (c .if1 .taken)
@@ -85,4 +88,4 @@ returns-2 c =
     never e m = omega arith
 
 pub head-spec : {M : Type 1} → statement M
-head-spec = tie.close (tie.spec Inv-loop μ-loop loop-holds sub-i mul-h mul-digit element-copy-out-digit digit-requires add-h loop-less loop-again returns returns-2)
+head-spec = tie.close (tie.spec Inv-loop μ-loop loop-holds sub-i cast-k mul-h mul-digit element-copy-out-digit digit-requires add-h loop-less loop-again returns returns-2)

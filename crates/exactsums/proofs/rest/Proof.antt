@@ -19,6 +19,9 @@ loop-holds : tie.Need-loop-holds Inv-loop μ-loop
 unfolding number
 loop-holds c = (omega arith, omega arith, inl (refl, refl))
 
+cast-k : tie.Need-cast-k Inv-loop μ-loop
+cast-k c = omega arith
+
 mul-sum : tie.Need-mul-sum Inv-loop μ-loop
 mul-sum c = omega arith
 
@@ -53,4 +56,4 @@ returns-2 c =
     elim (l .inv .2) [ inl (a, b) ↦ absurd (c .if1 .left b) | inr (a, b) ↦ inr (rw e at a, refl) ]
 
 pub rest-spec : {M : Type 1} → statement M
-rest-spec = tie.close (tie.spec Inv-loop μ-loop loop-holds mul-sum element-copy-out-sum add-sum add-j loop-less loop-again returns returns-2)
+rest-spec = tie.close (tie.spec Inv-loop μ-loop loop-holds cast-k mul-sum element-copy-out-sum add-sum add-j loop-less loop-again returns returns-2)

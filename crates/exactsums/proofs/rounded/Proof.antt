@@ -32,9 +32,6 @@ mul-even-bits c = omega (arith, small c)
 add-even-bits : tie.Need-add-even-bits
 add-even-bits c = omega (arith, small c)
 
-cast-even-bits : tie.Need-cast-even-bits
-cast-even-bits c = omega (arith, c .before .before .head .ensures .room)
-
 mul-even-bits-2 : tie.Need-mul-even-bits-2
 mul-even-bits-2 c = omega (arith, c .before .before .head .ensures .room)
 
@@ -50,4 +47,4 @@ returns c =
     c .even-bits .ensures ∙ ready-rounds (e .closed .result) (e .before .before .head .result .i) (e .before .rest .result) _ (is-ready e) (e .before .before .head .ensures .room)
 
 pub rounded-spec : {M : Type 1} → statement M
-rounded-spec = tie.close (tie.spec head-requires rest-requires closed-requires mul-even-bits add-even-bits cast-even-bits mul-even-bits-2 add-even-bits-2 even-bits-requires returns)
+rounded-spec = tie.close (tie.spec head-requires rest-requires closed-requires mul-even-bits add-even-bits mul-even-bits-2 add-even-bits-2 even-bits-requires returns)

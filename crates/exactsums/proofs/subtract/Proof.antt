@@ -21,6 +21,9 @@ loop-holds : tie.Need-loop-holds Inv-loop μ-loop
 unfolding number
 loop-holds c = (omega arith, omega arith, omega arith, c .pre .1, refl)
 
+cast-k : tie.Need-cast-k Inv-loop μ-loop
+cast-k c = omega arith
+
 mul-x : tie.Need-mul-x Inv-loop μ-loop
 mul-x c = omega arith
 
@@ -101,4 +104,4 @@ returns c =
 pub subtract-spec : {M : Type 1} → statement M
 subtract-spec =
     tie.close
-    (tie.spec Inv-loop μ-loop loop-holds mul-x element-copy-out-x add-x add-y mul-y element-copy-out-y add-y-2 add-digits sub-digits cast-digits mul-digits element-write-digits add-under sub-under add-j loop-less loop-again returns)
+    (tie.spec Inv-loop μ-loop loop-holds cast-k mul-x element-copy-out-x add-x add-y mul-y element-copy-out-y add-y-2 add-digits sub-digits cast-digits mul-digits element-write-digits add-under sub-under add-j loop-less loop-again returns)
