@@ -87,7 +87,8 @@ int main(void)
 {
     fill(taps, LONGEST);
     fill(signal, SAMPLES + LONGEST);
-    puts("\nNanoseconds for a call beside the same loop in C, clang -O2 -ffp-contract=off.\n");
+    puts("\nNanoseconds for a call beside the same loop in C, clang -O2 -ffp-contract=off; the nearest float of the sum beside a");
+    puts("loop in C that tests the elements and carries its rounding errors along.\n");
     printf("%-22s %10s %10s %10s\n", "", "ours", "C loop", "C/ours");
     contest(64);
     contest(1024);

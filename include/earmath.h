@@ -234,7 +234,7 @@ uint32_t ear_loudness_knee(uint32_t top, float b, float k, float m, uint32_t t, 
  *          nor from 2^-40 to 2^40 in size. Nothing overflows.
  *
  * a and b must be valid, aligned pointers to na and nb floats, and *out a float
- * of neither list. A call takes 872 bytes of stack on a Cortex-M4F.
+ * of neither list. A call takes 856 bytes of stack on a Cortex-M4F.
  */
 uint32_t ear_dot_nearest(const float *a, uint64_t na, const float *b, uint64_t nb, float *out);
 
