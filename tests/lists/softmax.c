@@ -51,15 +51,21 @@ static void fill(const struct kind *k, size_t n)
         x[i] = drawn(k);
 }
 
+static void judge_lists(struct softmax_tally *t, softmax call, const struct kind *k, int lists,
+                        const struct softmax_limits *limits)
+{
+    for (int i = 0; i < lists; i++) {
+        size_t n = i % 100 == 0 ? LONGEST : 1 + draw() % 40;
+        fill(k, n);
+        judge_softmax(t, call, x, n, n, limits);
+    }
+}
+
 static struct softmax_tally random_lists(softmax call, const struct kind *k, int lists,
                                          const struct softmax_limits *limits)
 {
     struct softmax_tally t = {0};
-    for (int i = 0; i < lists; i++) {
-        size_t n = i % 100 == 0 ? LONGEST : 1 + draw() % 40;
-        fill(k, n);
-        judge_softmax(&t, call, x, n, n, limits);
-    }
+    judge_lists(&t, call, k, lists, limits);
     return t;
 }
 
@@ -257,16 +263,44 @@ static uint32_t accepts_65(const float *from, uint64_t n, float *to, uint64_t m)
     return ear_softmax2(n > LONGEST ? from : cut, n, to, m);
 }
 
-/* Straightforward C: a float sum of exp2f, and one division each. */
-static uint32_t straightforward(const float *from, uint64_t n, float *to, uint64_t m)
+/* Straightforward C: a float sum of exp2f, by one of two functions, and one division each. */
+static uint32_t straightforward(const float *from, uint64_t n, float *to, uint64_t m, float (*sum_of)(const float *, size_t))
 {
     uint32_t code = ear_softmax2(from, n, to, m);
-    float sum = 0;
-    for (size_t i = 0; code == EAR_OK && i < n; i++)
-        sum += to[i] = exp2f(from[i]);
-    for (size_t i = 0; code == EAR_OK && i < n; i++)
+    if (code != EAR_OK)
+        return code;
+    for (size_t i = 0; i < n; i++)
+        to[i] = exp2f(from[i]);
+    float sum = sum_of(to, n);
+    for (size_t i = 0; i < n; i++)
         to[i] /= sum;
     return code;
+}
+
+static float sum_in_turn(const float *list, size_t n)
+{
+    float sum = 0;
+    for (size_t i = 0; i < n; i++)
+        sum += list[i];
+    return sum;
+}
+
+static float sum_in_pairs(const float *list, size_t n)
+{
+    size_t first = 1;
+    while (2 * first < n)
+        first *= 2;
+    return n == 1 ? list[0] : sum_in_pairs(list, first) + sum_in_pairs(list + first, n - first);
+}
+
+static uint32_t in_turn(const float *from, uint64_t n, float *to, uint64_t m)
+{
+    return straightforward(from, n, to, m, sum_in_turn);
+}
+
+static uint32_t in_pairs(const float *from, uint64_t n, float *to, uint64_t m)
+{
+    return straightforward(from, n, to, m, sum_in_pairs);
 }
 
 static const struct wrong {
@@ -280,7 +314,7 @@ static const struct wrong {
     {"one of the opposites", turned, SOFTMAX_ORDER},
     {"one that favours every second place", by_place, SOFTMAX_EQUAL},
     {"one that takes 64.5 for 64", accepts_65, SOFTMAX_CODE},
-    {"straightforward C on exp2f", straightforward, SOFTMAX_NEAR},
+    {"straightforward C on exp2f", in_turn, SOFTMAX_NEAR},
 };
 
 enum { WRONGS = sizeof wrongs / sizeof wrongs[0], TRIED = 200 };
@@ -312,17 +346,28 @@ static void of_section_9(void)
           bits_of(p[2]), bits_of(p[0]));
 }
 
-/* A judgement that rejects everything would pass all of the above. */
+/* Straightforward C by what is asked: over all kinds, and over a list whose small terms a sum in turn loses. */
+static struct softmax_tally judged_as_asked(softmax call)
+{
+    struct softmax_tally t = {0};
+    for (int i = 0; i < KINDS; i++)
+        judge_lists(&t, call, &kinds[i], TRIED, &asked);
+    all(LONGEST, -4.001f);
+    x[0] = 20;
+    judge_softmax(&t, call, x, LONGEST, LONGEST, &asked);
+    return t;
+}
+
+/* A judgement that rejects everything would pass all of the above. What is asked since change request Q3, rel 2^-17 and
+ * 2^-20 for the sum, tells a sum in pairs from a sum in turn. */
 static void the_limits_are_not_too_tight(void)
 {
-    uint64_t faults = 0;
-    double worst = 0;
-    for (int i = 0; i < KINDS; i++) {
-        struct softmax_tally t = random_lists(straightforward, &kinds[i], TRIED, &asked);
-        faults += softmax_faults_in(&t);
-        worst = fmax(worst, t.worst);
-    }
-    group(faults == 0, "straightforward C on exp2f keeps what document 01 asks, rel 2^-13: worst 2^%.2f", log2(worst));
+    struct softmax_tally pairs = judged_as_asked(in_pairs), turn = judged_as_asked(in_turn);
+    group(softmax_faults_in(&pairs) == 0,
+          "straightforward C with a sum in pairs keeps what is asked, rel 2^-17 and 2^-20: worst 2^%.2f and 2^%.2f",
+          log2(pairs.worst), log2(pairs.worst_whole));
+    group(turn.seen[SOFTMAX_NEAR] > 0 && turn.seen[SOFTMAX_WHOLE] > 0,
+          "and with a sum in turn it does not: worst 2^%.2f and 2^%.2f", log2(turn.worst), log2(turn.worst_whole));
 }
 
 int main(void)

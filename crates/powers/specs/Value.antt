@@ -26,8 +26,3 @@ roundedPower c = c / 2 ^ 32 * 8388608 + powerDigits (c % 2 ^ 32)
 -- and its float
 unfoldable pub exp2Of : Float → Float
 exp2Of x = ofBits binary32 (roundedPower (cutOf x))
-
--- an accepted x is taken for what it is cut off to, any other for 2 ^ 48
-pub record Argument (x : Float) (c : ℕ) : Type 0 where
-  pub accepted : c < 2 ^ 48 → Between (126 * 2 ^ 149) (127 * 2 ^ 149) x × (c ≡ cutOf x)
-  pub refused : 2 ^ 48 ≤ c → ¬ Between (126 * 2 ^ 149) (127 * 2 ^ 149) x
