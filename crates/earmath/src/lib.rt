@@ -10,6 +10,7 @@ ghost use Rattle.powers.specs.Exp2.{Exp2};
 ghost use Rattle.logs.specs.Log2.{Log2};
 ghost use Rattle.circle.specs.Promise.{SinPi, CosPi, Sin, Cos};
 ghost use Rattle.sums.specs.Dot.{Dot};
+ghost use Rattle.exactsums.specs.Nearest.{NearestDot};
 ghost use Rattle.weights.specs.Softmax.{Softmax2, floatsOf};
 
 // The square root of every bit pattern: the nearest float, or code 1 and nothing written.
@@ -142,4 +143,12 @@ pub extern "C" fn ear_loudness_knee(
     ensures { λ code. ⌜ Ends itself (LoudnessKnee top b k m t kk c a) code (now (out .entry)) (now (out .exit)) ⌝ }
 {
     loudness::knee::loudness_knee(top, b, k, m, t, kk, c, a, out)
+}
+
+// The sum of the products of two lists: the float nearest to the exact sum, or code 2 or 1 and nothing written.
+#[no_mangle]
+pub extern "C" fn ear_dot_nearest(a: &[f32], b: &[f32], out: &mut u32) -> u32
+    ensures { λ code. ⌜ Ends floatBits (NearestDot (now (a .entry)) (now (b .entry))) code (now (out .entry)) (now (out .exit)) ⌝ }
+{
+    exactsums::dot_nearest(a, b, out)
 }
