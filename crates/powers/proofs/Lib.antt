@@ -5,3 +5,6 @@ pub mod Taken
 pub mod Order
 pub mod Fixed
 pub mod Promise
+pub mod NaturalTaken
+pub mod NaturalReduction
+pub mod NaturalPromise

@@ -1,4 +1,5 @@
 pub mod Exp2
+pub mod Exp
 pub mod Raised
 pub mod Value
 pub mod Fixed
