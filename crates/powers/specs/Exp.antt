@@ -4,24 +4,22 @@ use Prim.Native.Nat.{ℕ, _+_, _-_, _*_, _^_, _≤_}
 use lib.Ieee.{Float, binary32, ofBits}
 use Rattle.units.specs.Units.{mag, P, N, Le, Between}
 use Rattle.units.specs.Answers.{Answers}
-use Rattle.exact.specs.Exponential.{powers}
+use Rattle.exact.specs.Exponential.{ExpAtMost, ExpAtLeast}
 use Rattle.powers.specs.Value.{expOf}
 
 -- accepted: the finite floats from -87 to 88
 abbrev pub Accepts : Float → Type 0
 Accepts = Between (87 * 2 ^ 149) (88 * 2 ^ 149)
 
--- r > 0 is within a / b of e ^ x, relatively: e ^ x is e ^ (P x) / e ^ (N x), of which one is 1, and from some n on the partial sums of both series, of one denominator, are that near.
--- (1 - a / b) e ^ (P x) ≤ r e ^ (N x) ≤ (1 + a / b) e ^ (P x), with r of P r units of 2 ^ -149
+-- r > 0 is within a / b of e ^ x, relatively: r / (1 + a / b) ≤ e ^ x ≤ r / (1 - a / b). The exponent is x itself, P x - N x units of 2 ^ -149
 pub record NearExp (a b : ℕ) (x r : Float) : Type 0 where
   pub plus : N r ≡ 0
-  pub from : ℕ
-  pub least : (n : ℕ) → from ≤ n → (b - a) * (powers (P x) (2 ^ 149) n * 2 ^ 149) ≤ b * (P r * powers (N x) (2 ^ 149) n)
-  pub most : (n : ℕ) → from ≤ n → b * (P r * powers (N x) (2 ^ 149) n) ≤ (b + a) * (powers (P x) (2 ^ 149) n * 2 ^ 149)
+  pub at-most : ExpAtMost (b * P r) ((b + a) * 2 ^ 149) (P x) (N x) (2 ^ 149)
+  pub at-least : ExpAtLeast (b * P r) ((b - a) * 2 ^ 149) (P x) (N x) (2 ^ 149)
 
--- the proved relative error, 517 / 2 ^ 33; asked are 1 / 2 ^ 22
+-- the proved relative error, 515 / 2 ^ 33, as of 2 ^ x; asked are 1 / 2 ^ 22
 abbrev pub expErrorNum : ℕ
-expErrorNum = 517
+expErrorNum = 515
 
 abbrev pub expErrorDen : ℕ
 expErrorDen = 2 ^ 33
@@ -30,7 +28,7 @@ expErrorDen = 2 ^ 33
 pub record Exp (x : Float) (code : ℕ) (r : Float) : Type 0 where
   -- codes, the value
   pub answers : Answers Accepts expOf x code r
-  -- within 517 / 2 ^ 33 of the real number e ^ x, relatively
+  -- within 515 / 2 ^ 33 of the real number e ^ x, relatively
   pub near : Accepts x → NearExp expErrorNum expErrorDen x r
   -- exactly 1 at 0, of either sign
   pub one : Accepts x → mag x ≡ 0 → r ≡ ofBits binary32 0x3f800000

@@ -1,14 +1,14 @@
 // 2 to the power x, and e to it: whole numbers inside, one pattern put together at the end.
 
+pub mod natural;
+
 ghost use mathlib.Core.Path.{_≡_};
 ghost use Prim.Native.Nat.{_+_, _*_, _/_, _%_, _<_, _≤_, _^_};
 ghost use Rattle.powers.specs.Raised.{raised};
 ghost use Rattle.units.specs.Answers.{Ends, floatBits};
 ghost use Rattle.units.specs.Tests.{Tells};
 ghost use Rattle.powers.specs.Exp2.{Accepts, Exp2};
-ghost use Rattle.powers.specs.Exp as exponential;
-ghost use Rattle.powers.specs.Exp.{Exp};
-ghost use Rattle.powers.specs.Value.{Argument, stepsOf, cutOf, roundedPower, naturalSteps, naturalCut};
+ghost use Rattle.powers.specs.Value.{Argument, stepsOf, cutOf, roundedPower};
 ghost use Rattle.powers.specs.Fixed.{FixedExp2};
 
 // One step of Horner's rule, the product of two 32-bit numbers cut off to its upper half.
@@ -127,54 +127,6 @@ pub fn exp2(x: f32, out: &mut u32) -> u32
     let c = argument(x);
     if c < REFUSED {
         *out = rounded(c);
-        return 0;
-    }
-    1
-}
-
-// The size with the pattern a, times log2 e, as a whole number of 2^-32: 24 digits times 40, cut off. Below 2^-33 nothing is left of them.
-fn natural_steps(a: u32) -> u64
-    requires { ⌜ a < 134 * 8388608 ⌝ }
-    ensures { λ r. ⌜ r ≡ naturalSteps a ⌝ }
-{
-    let e = a / 8388608;
-    if e < 94 {
-        return 0;
-    }
-    ((a % 8388608 + 8388608) as u64 * 0xb8_aa3b_295c) >> (157 - e)
-}
-
-// x log2 e + 126 as a whole number of 2^-32, of either sign the size cut off.
-fn natural_cut(x: f32) -> u64
-    requires { ⌜ exponential.Accepts x ⌝ }
-    ensures { λ r. ⌜ r ≡ naturalCut x ⌝ }
-{
-    let b = f32::to_bits(x);
-    let k = natural_steps(b % 2147483648);
-    if b < 2147483648 {
-        541165879296 + k
-    } else {
-        541165879296 - k
-    }
-}
-
-// From -87 to 88: of patterns up to 88's, and from -0's to that of -87.
-fn in_natural_range(x: f32) -> bool
-    ensures { λ r. ⌜ Tells (exponential.Accepts x) r ⌝ }
-{
-    let b = fixed::bits_of(x);
-    if b < 0x8000_0000 {
-        return b <= 0x42b0_0000;
-    }
-    b <= 0xc2ae_0000
-}
-
-// e to the power x; code 1 and nothing written where x is a NaN, below -87 or above 88.
-pub fn exp(x: f32, out: &mut u32) -> u32
-    ensures { λ code. ⌜ Ends floatBits (Exp x) code (now (out .entry)) (now (out .exit)) ⌝ }
-{
-    if in_natural_range(x) {
-        *out = rounded(natural_cut(x));
         return 0;
     }
     1

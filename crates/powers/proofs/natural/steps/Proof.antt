@@ -1,10 +1,10 @@
--- `powers::natural_steps` meets its contract: the two cases of the shift. Assumes nothing.
+-- `powers::natural::steps` meets its contract: the two cases of the shift. Assumes nothing.
 use borrow.Author.Needs.{needs}
 use mathlib.Core.Path.{sym}
 use native.Mathlib.Omega.{arith}
 use Rattle.powers.proofs.NaturalTaken.{steps-none, steps-some}
-use Rattle.powers.proofs.natural_steps.Statement.{statement}
-use Rattle.powers.proofs.natural_steps.Tie as tie
+use Rattle.powers.proofs.natural.steps.Statement.{statement}
+use Rattle.powers.proofs.natural.steps.Tie as tie
 
 returns : tie.Need-returns
 returns c = sym (steps-none (c .before .args .a) (omega arith))
@@ -30,5 +30,5 @@ shr-result c = search needs
 returns-2 : tie.Need-returns-2
 returns-2 c = sym (steps-some (c .before .args .a) (omega arith))
 
-pub natural-steps-spec : {M : Type 1} → statement M
-natural-steps-spec = tie.close (tie.spec returns add-result cast-result mul-result sub-result cast-result-2 shr-result returns-2)
+pub steps-spec : {M : Type 1} → statement M
+steps-spec = tie.close (tie.spec returns add-result cast-result mul-result sub-result cast-result-2 shr-result returns-2)
