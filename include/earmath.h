@@ -78,6 +78,19 @@ uint32_t ear_rsqrt(float x, float *out);
 uint32_t ear_exp2(float x, float *out);
 
 /*
+ * e to the power x.
+ *
+ * Accepts: every x with -87 <= x <= 88.
+ * Result:  within 515 / 2^33 (below 2^-23.99) of the real number e^x,
+ *          relatively. Exactly 1 where x is 0, of either sign. Always a normal
+ *          float.
+ * Order:   never falls as x grows.
+ * Refuses: NaN, both infinities, every x < -87 and every x > 88 with
+ *          EAR_OUT_OF_RANGE; *out stays as it was.
+ */
+uint32_t ear_exp(float x, float *out);
+
+/*
  * The logarithm to base two.
  *
  * Accepts: every finite x >= 2^-126, the normal floats above zero.

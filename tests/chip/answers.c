@@ -145,6 +145,7 @@ const struct asked every_function[] = {
     SINGLE(ear_sqrt),
     SINGLE(ear_rsqrt),
     SINGLE(ear_exp2),
+    SINGLE(ear_exp),
     SINGLE(ear_log2),
     SINGLE(ear_sinpi),
     SINGLE(ear_cospi),

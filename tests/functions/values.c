@@ -49,6 +49,24 @@ static void powers(void)
     group(edges == EDGE_POWERS, "ear_exp2: %d of %d powers at and next to whole numbers", edges, EDGE_POWERS);
 }
 
+/* e^x at both zeros and next to them, at and next to both ends of the range, and at the float next to ln 2: the nearest floats. */
+static const uint32_t exponentials[][2] = {
+    {0x00000000, 0x3f800000}, {0x80000000, 0x3f800000}, {0x00000001, 0x3f800000}, {0x80000001, 0x3f800000},
+    {0x3f800000, 0x402df854}, {0xbf800000, 0x3ebc5ab2}, {0x42b00000, 0x7ef882b7}, {0xc2ae0000, 0x00b33687},
+    {0x3f317218, 0x40000000}, {0xbf317218, 0x3f000000}, {0x33800000, 0x3f800001}, {0xb3000000, 0x3f800000},
+    {0x3f000000, 0x3fd3094c}, {0x41200000, 0x46ac14ee}, {0x42afffff, 0x7ef8823b}, {0xc2adffff, 0x00b336e0},
+};
+
+enum { EXPONENTIALS = sizeof exponentials / sizeof exponentials[0] };
+
+static void natural_powers(void)
+{
+    int right = 0;
+    for (int i = 0; i < EXPONENTIALS; i++)
+        right += gives("ear_exp", ear_exp, exponentials[i][0], exponentials[i][1]);
+    group(right == EXPONENTIALS, "ear_exp: %d of %d powers at the ends, at 0 and next to it", right, EXPONENTIALS);
+}
+
 /* The floats next to 1, to a half and to the cut between two pieces. */
 static const uint32_t edge_logarithms[][2] = {
     {0x3f7fffff, 0xb3b8aa3c}, {0x3f800001, 0x3438aa3a}, {0x3effffff, 0xbf800001}, {0x3f000001, 0xbf7ffffd},
@@ -152,6 +170,7 @@ int main(void)
 {
     roots_of_section_8();
     powers();
+    natural_powers();
     logarithms();
     waves();
     softmax();

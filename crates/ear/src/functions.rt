@@ -22,6 +22,8 @@ const SIN: u32 = 7;
 
 const COS: u32 = 8;
 
+const EXP: u32 = 9;
+
 const DOT: u32 = 20;
 
 const SOFTMAX2: u32 = 21;
@@ -36,6 +38,8 @@ pub fn named(word: &[u8]) -> u32 {
         RSQRT
     } else if check::same(word, b"exp2") {
         EXP2
+    } else if check::same(word, b"exp") {
+        EXP
     } else if check::same(word, b"log2") {
         LOG2
     } else if check::same(word, b"sinpi") {
@@ -65,6 +69,8 @@ fn at(function: u32, x: f32, out: &mut u32) -> u32 {
         earmath::ear_rsqrt(x, out)
     } else if function == EXP2 {
         earmath::ear_exp2(x, out)
+    } else if function == EXP {
+        earmath::ear_exp(x, out)
     } else if function == SINPI {
         earmath::ear_sinpi(x, out)
     } else if function == COSPI {

@@ -7,6 +7,7 @@ ghost use Rattle.roots.specs.Rsqrt.{Rsqrt};
 ghost use Rattle.loudness.specs.Map.{Loudness};
 ghost use Rattle.loudness.specs.Knee.{LoudnessKnee};
 ghost use Rattle.powers.specs.Exp2.{Exp2};
+ghost use Rattle.powers.specs.Exp.{Exp};
 ghost use Rattle.logs.specs.Log2.{Log2};
 ghost use Rattle.circle.specs.Promise.{SinPi, CosPi, Sin, Cos};
 ghost use Rattle.sums.specs.Dot.{Dot};
@@ -34,6 +35,14 @@ pub extern "C" fn ear_exp2(x: f32, out: &mut u32) -> u32
     ensures { λ code. ⌜ Ends floatBits (Exp2 x) code (now (out .entry)) (now (out .exit)) ⌝ }
 {
     powers::exp2(x, out)
+}
+
+// e to the power of every bit pattern: within 515 / 2^33 of it, or code 1 and nothing written.
+#[no_mangle]
+pub extern "C" fn ear_exp(x: f32, out: &mut u32) -> u32
+    ensures { λ code. ⌜ Ends floatBits (Exp x) code (now (out .entry)) (now (out .exit)) ⌝ }
+{
+    powers::natural::exp(x, out)
 }
 
 // The logarithm to base two of every bit pattern: within 33 / 2^29 of it, relatively, and of 1 it is +0; or code 1 and nothing written.
