@@ -23,7 +23,7 @@ use Rattle.powers.proofs.Rounding.{digits-zero, digits-most, digits-lea
 use Rattle.powers.proofs.Order.{exponentOf, fractionDigits, first, pattern-in, pattern-is, units-mono}
 use Rattle.powers.proofs.Promise.{more, fewer}
 use Rattle.powers.proofs.NaturalTaken.{stepsIn, natural-top}
-use Rattle.powers.proofs.NaturalReduction.{most-natural, least-natural, natural-mono}
+use Rattle.powers.proofs.NaturalReduction.{most-natural-uncut, least-natural-uncut, natural-mono}
 
 whole-one : roundedPower (126 * D) ≡ 0x3f800000
 unfolding roundedPower
@@ -62,7 +62,7 @@ module _ (x : Float) (a : Accepts x) where
   within-most = rw exp-units (exp-most-of-less (lit< tt) (through expErrorDen _ (2 * D * D) (1000 * D) ((expErrorDen + expErrorNum) * 2 ^ 149) S (2 ^ g) (lit≤ tt)) whole)
     where
       whole : ExpAtMost (2 * D * D * (512 * S) * 2 ^ g * (1000 * D)) ((2 * D + 1) * (D + 256) * D * 2 ^ 126 * (1000 * D + 742)) (P x) (N x) (2 ^ 149)
-      whole = most-natural x a (rw parts at (most-shift g 126 (digits-most f fraction)))
+      whole = most-natural-uncut x a (rw parts at (most-shift g 126 (digits-most f fraction)))
 
       through : (b d n t z s G : ℕ) → b * d ≤ n * 512 * t * z → b * (s * G) * d ≤ n * (512 * s) * G * t * z
       through b d n t z s G h = omega (arith, mul-le-mul-right (s * G) h)
@@ -74,7 +74,7 @@ module _ (x : Float) (a : Accepts x) where
       (through expErrorDen _ ((2 * D + 1) * (400 * D + 102501)) (1000 * D + 742) ((expErrorDen - expErrorNum) * 2 ^ 149) S (2 ^ g) (lit≤ tt)) whole)
     where
       whole : ExpAtLeast ((2 * D + 1) * (400 * D + 102501) * (512 * S) * 2 ^ g * (1000 * D + 742)) (2 * D * (400 * D * D) * 2 ^ 126 * (1000 * D)) (P x) (N x) (2 ^ 149)
-      whole = least-natural x a (rw parts at (least-shift g 126 (digits-least f fraction)))
+      whole = least-natural-uncut x a (rw parts at (least-shift g 126 (digits-least f fraction)))
 
       through : (b d n t z s G : ℕ) → n * 512 * t * z ≤ b * d → n * (512 * s) * G * t * z ≤ b * (s * G) * d
       through b d n t z s G h = omega (arith, mul-le-mul-right (s * G) h)

@@ -121,8 +121,8 @@ module _ (x : Float) (a : Accepts x) where
   equal X q p e = omega (arith, ap (λ (y : ℕ). y * D) e)
 
   -- what is at most 2 ^ (what was cut to) is at most e ^ x, but for 742 / 1000 of 2 ^ -32
-  pub most-natural : {n c : ℕ} → AtMost n c X (126 * D) D → ExpAtMost (n * (1000 * D)) (c * (1000 * D + 742)) (P x) (N x) (2 ^ 149)
-  most-natural {n} {c} h = record { per = one-le-mul (h .per) (lit< tt); root = pow-pos 149; from = steps-least (P x) .0; holds = at }
+  pub most-natural-uncut : {n c : ℕ} → AtMost n c X (126 * D) D → ExpAtMost (n * (1000 * D)) (c * (1000 * D + 742)) (P x) (N x) (2 ^ 149)
+  most-natural-uncut {n} {c} h = record { per = one-le-mul (h .per) (lit< tt); root = pow-pos 149; from = steps-least (P x) .0; holds = at }
     where
       at : (k : ℕ) → steps-least (P x) .0 ≤ k → n * (1000 * D) * powers (N x) (2 ^ 149) k ≤ powers (P x) (2 ^ 149) k * (c * (1000 * D + 742))
       at k l = le-of-mul-le-mul-right (turned-most n c (1000 * D) (1000 * D + 742) (powers (N x) (2 ^ 149) k) (powers (P x) (2 ^ 149) k) (d k) (through-power left right)) (over-pos (2 ^ 149) k (pow-pos 149))
@@ -136,8 +136,8 @@ module _ (x : Float) (a : Accepts x) where
           right = least-mul (finer-least (steps-least (P x) .1 k l)) step-more
 
   -- and what is at least 2 ^ (what was cut to) is at least e ^ x, but for as much
-  pub least-natural : {n c : ℕ} → AtLeast n c X (126 * D) D → ExpAtLeast (n * (1000 * D + 742)) (c * (1000 * D)) (P x) (N x) (2 ^ 149)
-  least-natural {n} {c} h = record { per = one-le-mul (h .per) (lit< tt); root = pow-pos 149; from = steps-least (N x) .0; holds = at }
+  pub least-natural-uncut : {n c : ℕ} → AtLeast n c X (126 * D) D → ExpAtLeast (n * (1000 * D + 742)) (c * (1000 * D)) (P x) (N x) (2 ^ 149)
+  least-natural-uncut {n} {c} h = record { per = one-le-mul (h .per) (lit< tt); root = pow-pos 149; from = steps-least (N x) .0; holds = at }
     where
       at : (k : ℕ) → steps-least (N x) .0 ≤ k → powers (P x) (2 ^ 149) k * (c * (1000 * D)) ≤ n * (1000 * D + 742) * powers (N x) (2 ^ 149) k
       at k l = le-of-mul-le-mul-right (turned-least n c (1000 * D) (1000 * D + 742) (powers (N x) (2 ^ 149) k) (powers (P x) (2 ^ 149) k) (d k) (through-power (steps-most (P x) (a .at-most) k) above)) (over-pos (2 ^ 149) k (pow-pos 149))

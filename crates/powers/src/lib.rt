@@ -1,5 +1,6 @@
 // 2 to the power x, and e to it: whole numbers inside, one pattern put together at the end.
 
+pub mod fixed_point;
 pub mod natural;
 
 ghost use mathlib.Core.Path.{_≡_};
@@ -9,7 +10,6 @@ ghost use Rattle.units.specs.Answers.{Ends, floatBits};
 ghost use Rattle.units.specs.Tests.{Tells};
 ghost use Rattle.powers.specs.Exp2.{Accepts, Exp2};
 ghost use Rattle.powers.specs.Value.{Argument, stepsOf, cutOf, roundedPower};
-ghost use Rattle.powers.specs.Fixed.{FixedExp2};
 
 // One step of Horner's rule, the product of two 32-bit numbers cut off to its upper half.
 fn step(c: u32, p: u32, f: u32) -> u32
@@ -62,24 +62,6 @@ fn cut_off(x: f32) -> u64
         541165879296 + k
     } else {
         541165879296 - k
-    }
-}
-
-// Digits and an exponent: r * 2^(e - 158).
-pub struct Digits {
-    pub r: u64,
-    pub e: u32,
-}
-
-// 2 to the power x in fixed point, x from -126 to 127: the power of the fraction of x + 126, and its whole part.
-pub fn fixed_exp2(x: f32) -> Digits
-    requires { ⌜ Accepts x ⌝ }
-    ensures { λ t. ⌜ FixedExp2 x (t .r) (t .e) ⌝ }
-{
-    let c = cut_off(x);
-    Digits {
-        r: 0x1_0000_0000 + raise((c % 4294967296) as u32) as u64,
-        e: (c / 4294967296) as u32,
     }
 }
 

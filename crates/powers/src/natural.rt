@@ -20,7 +20,7 @@ fn steps(a: u32) -> u64
 }
 
 // x log2 e + 126 as a whole number of 2^-32, of either sign the size cut off.
-fn cut_off(x: f32) -> u64
+pub fn cut_off(x: f32) -> u64
     requires { ⌜ Accepts x ⌝ }
     ensures { λ r. ⌜ r ≡ naturalCut x ⌝ }
 {
