@@ -188,6 +188,13 @@ uint32_t ear_softmax2(const float *x, uint64_t nx, float *p, uint64_t np);
 uint32_t ear_softmax2_in_place(float *p, uint64_t n);
 
 /*
+ * Softmax, base e: p[i] is e^x[i] over the sum of e^x[j] for all j. The same promise
+ * as of ear_softmax2, with the same bounds, codes and order. (The least quotient is
+ * about e^-128 or 2^-184.7: below 2^-149 the output is +0, and within one least float.)
+ */
+uint32_t ear_softmax(const float *x, uint64_t nx, float *p, uint64_t np);
+
+/*
  * The loudness map: from the envelope of one channel to a whole current step.
  *
  * The channel: b and m are envelope levels, t and c current steps: up to b the

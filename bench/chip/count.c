@@ -51,6 +51,8 @@ enum evenly { OVER_PATTERNS, OVER_VALUES, IN_LISTS };
          LISTS_OF_64) \
     LINE(softmax, ear_softmax2, ear_softmax2(list, LENGTH, out, LENGTH), "softmax_in_c", softmax_in_c(list, LENGTH, out), \
          LISTS_OF_64) \
+    LINE(softmax_of_e, ear_softmax, ear_softmax(list, LENGTH, out, LENGTH), "softmax_of_e_in_c", \
+         softmax_of_e_in_c(list, LENGTH, out), LISTS_OF_64) \
     LINE(loudness_map, ear_loudness, ear_loudness(CHANNEL, x, &step), "map_in_c", map_in_c(CHANNEL, x, &step), BETWEEN) \
     LINE(fitted_map, ear_loudness, ear_loudness(CHANNEL, x, &step), "fitted_in_c", fitted_in_c(x, &step), \
          BETWEEN_FITTED)

@@ -156,6 +156,8 @@ const struct asked every_function[] = {
      1 << EAR_OK | 1 << EAR_OUT_OF_RANGE | 1 << EAR_BAD_LENGTH | 1 << EAR_OVERFLOW, 16, true},
     {"ear_softmax2", ask_softmax, {.softmax = ear_softmax2},
      1 << EAR_OK | 1 << EAR_OUT_OF_RANGE | 1 << EAR_BAD_LENGTH, 16, false},
+    {"ear_softmax", ask_softmax, {.softmax = ear_softmax},
+     1 << EAR_OK | 1 << EAR_OUT_OF_RANGE | 1 << EAR_BAD_LENGTH, 16, false},
     {"ear_loudness", ask_map, {.map = ear_loudness}, 1 << EAR_OK | 1 << EAR_OUT_OF_RANGE | 1 << EAR_BAD_CHANNEL, 1, false},
 };
 

@@ -155,14 +155,19 @@ static void softmax(void)
 {
     static const float inputs[4] = {0, 1, 2, -3.5f}, equal[3] = {7, 7, 7};
     static const double digits[4] = {0.141075791979, 0.282151583958, 0.564303167916, 0.0124694561462};
-    float p[4] = {0}, q[3] = {0};
-    int near = 0, thirds = 0;
+    static const double natural[4] = {0.0897864717905, 0.244064934709, 0.663437276985, 0.0027113165147};
+    float p[4] = {0}, q[3] = {0}, e[4] = {0};
+    int near = 0, thirds = 0, near_e = 0;
     uint32_t code = ear_softmax2(inputs, 4, p, 4), code_of_equal = ear_softmax2(equal, 3, q, 3);
+    uint32_t code_of_e = ear_softmax(inputs, 4, e, 4);
+    for (int i = 0; i < 4; i++)
+        near_e += code_of_e == EAR_OK && fabs(e[i] - natural[i]) <= 273 * 0x1p-32 * natural[i] + 1e-12;
     for (int i = 0; i < 4; i++)
         near += code == EAR_OK && fabs(p[i] - digits[i]) <= 273 * 0x1p-32 * digits[i] + 1e-12;
     for (int i = 0; i < 3; i++)
         thirds += code_of_equal == EAR_OK && bits_of(q[i]) == 0x3eaaaaab;
     group(near == 4, "ear_softmax2: %d of 4 values of document 01, section 5, within 273 * 2^-32", near);
+    group(near_e == 4, "ear_softmax: %d of 4 values of the same inputs, base e, within 273 * 2^-32", near_e);
     group(thirds == 3, "ear_softmax2: %d of 3 equal inputs get the float next to a third", thirds);
 }
 

@@ -30,6 +30,8 @@ const SOFTMAX2: u32 = 21;
 
 const LOUDNESS: u32 = 22;
 
+const SOFTMAX: u32 = 23;
+
 // Which function a word names.
 pub fn named(word: &[u8]) -> u32 {
     if check::same(word, b"sqrt") {
@@ -54,6 +56,8 @@ pub fn named(word: &[u8]) -> u32 {
         DOT
     } else if check::same(word, b"softmax2") {
         SOFTMAX2
+    } else if check::same(word, b"softmax") {
+        SOFTMAX
     } else if check::same(word, b"loudness") {
         LOUDNESS
     } else {
@@ -143,9 +147,18 @@ fn list(results: &[u32]) {
     }
 }
 
+// The weights of the floats, base two or e.
+fn weights_of(function: u32, floats: &[f32], weights: &mut [u32]) -> u32 {
+    if function == SOFTMAX {
+        earmath::ear_softmax(floats, weights)
+    } else {
+        earmath::ear_softmax2(floats, weights)
+    }
+}
+
 // The weight of each of the floats among all of them, or one refusal.
-fn weigh(floats: &[f32], weights: &mut [u32]) {
-    let code = earmath::ear_softmax2(floats, weights);
+fn weigh(function: u32, floats: &[f32], weights: &mut [u32]) {
+    let code = weights_of(function, floats, weights);
     if code == 0 {
         list(weights);
     } else {
@@ -153,11 +166,11 @@ fn weigh(floats: &[f32], weights: &mut [u32]) {
     }
 }
 
-fn softmax2(floats: &[f32]) {
+fn softmax(function: u32, floats: &[f32]) {
     let mut weights = [0; 2048];
     let n = floats.len();
     if n <= 2048 {
-        weigh(floats, &mut weights[0..n]);
+        weigh(function, floats, &mut weights[0..n]);
     }
 }
 
@@ -186,8 +199,8 @@ fn loudness(floats: &[f32]) {
 pub fn apply(function: u32, floats: &[f32]) {
     if function == DOT {
         dot(floats);
-    } else if function == SOFTMAX2 {
-        softmax2(floats);
+    } else if function == SOFTMAX2 || function == SOFTMAX {
+        softmax(function, floats);
     } else if function == LOUDNESS {
         loudness(floats);
     } else {

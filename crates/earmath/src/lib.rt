@@ -11,7 +11,8 @@ ghost use Rattle.powers.specs.Exp.{Exp};
 ghost use Rattle.logs.specs.Log2.{Log2};
 ghost use Rattle.circle.specs.Promise.{SinPi, CosPi, Sin, Cos};
 ghost use Rattle.sums.specs.Dot.{Dot};
-ghost use Rattle.weights.specs.Softmax.{Softmax2, floatsOf};
+ghost use Rattle.powers.specs.Base.{two, natural};
+ghost use Rattle.weights.specs.Softmax.{Softmax, floatsOf};
 
 // The square root of every bit pattern: the nearest float, or code 1 and nothing written.
 #[no_mangle]
@@ -97,9 +98,17 @@ pub extern "C" fn ear_dot(a: &[f32], b: &[f32], out: &mut u32) -> u32
 // or 1 and nothing written.
 #[no_mangle]
 pub extern "C" fn ear_softmax2(x: &[f32], p: &mut [u32]) -> u32
-    ensures { λ code. ⌜ Ends listBits (Softmax2 (now (x .entry)) (length (now (p .entry)))) code (now (p .entry)) (now (p .exit)) ⌝ }
+    ensures { λ code. ⌜ Ends listBits (Softmax two (now (x .entry)) (length (now (p .entry)))) code (now (p .entry)) (now (p .exit)) ⌝ }
 {
     weights::softmax2(x, p)
+}
+
+// The same with e in the place of 2, and the same bounds.
+#[no_mangle]
+pub extern "C" fn ear_softmax(x: &[f32], p: &mut [u32]) -> u32
+    ensures { λ code. ⌜ Ends listBits (Softmax natural (now (x .entry)) (length (now (p .entry)))) code (now (p .entry)) (now (p .exit)) ⌝ }
+{
+    weights::softmax(x, p)
 }
 
 // The loudness map of an envelope value a in the channel b, m, t, c: a step within 0.500001 of the exact map, or code 4 or 1 and nothing written.
@@ -114,7 +123,7 @@ pub extern "C" fn ear_loudness(b: f32, m: f32, t: u32, c: u32, a: f32, out: &mut
 // nothing written.
 #[no_mangle]
 pub extern "C" fn ear_softmax2_in_place(p: &mut [u32]) -> u32
-    ensures { λ code. ⌜ Ends listBits (Softmax2 (floatsOf (now (p .entry))) (length (now (p .entry)))) code (now (p .entry)) (now (p .exit)) ⌝ }
+    ensures { λ code. ⌜ Ends listBits (Softmax two (floatsOf (now (p .entry))) (length (now (p .entry)))) code (now (p .entry)) (now (p .exit)) ⌝ }
 {
     weights::softmax2_in_place(p)
 }

@@ -1,6 +1,6 @@
 -- Laws of `ExpAtMost` and `ExpAtLeast`: they speak of the number n / d, not of how it is written, obey the order, and leave no room between them. Assumes nothing.
 use Prim.Native.Nat.{ℕ, _+_, _*_, _/_, _^_, _≤_, _<_, max}
-use native.Mathlib.Nat.{le-trans, le-of-lt, mul-one, one-mul, mul-le-mul-left, mul-le-mul-right, le-of-mul-le-mul-right, one-le-mul, le-mul-of-pos-right, le-max-left, le-max-right, div-mul-le-self, lt-div-mul-add}
+use native.Mathlib.Nat.{le-trans, mul-le-mul-left, mul-le-mul-right, le-of-mul-le-mul-right, one-le-mul, le-mul-of-pos-right, le-max-left, le-max-right, div-mul-le-self, lt-div-mul-add}
 use native.Mathlib.Omega.{arith}
 use Rattle.exact.specs.Series.{partial, denominator}
 use Rattle.exact.specs.Exponential.{every, powers, ExpAtMost, ExpAtLeast}

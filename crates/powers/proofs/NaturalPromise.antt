@@ -1,7 +1,7 @@
 -- The promise of e ^ x, put together from the rooms of 2 ^ x (Method, Rounding, Order) and the argument of its own (NaturalReduction). Assumes nothing.
 use mathlib.Core.Path.{_≡_, refl, sym, ap, ap₂, _∙_}
 use mathlib.Core.Bool.{false}
-use Prim.Native.Nat.{ℕ, _+_, _-_, _*_, _/_, _%_, _^_, _≤_, _<_}
+use Prim.Native.Nat.{ℕ, _+_, _-_, _*_, _%_, _^_, _≤_, _<_}
 use native.Mathlib.Nat.{le-trans, mul-le-mul-right, one-le-mul, le-mul-of-pos-right}
 use native.Mathlib.Omega.{arith}
 use lib.Dec.{lit<, lit≤}
@@ -17,7 +17,7 @@ use Rattle.exact.specs.Exponential.{ExpAtMost, ExpAtLeast}
 use Rattle.exact.proofs.Power.{most-shift, least-shift}
 use Rattle.exact.proofs.ExpBounds.{exp-most-of-less, exp-least-of-more}
 use Rattle.powers.specs.Exp.{Accepts, NearExp, expErrorNum, expErrorDen, Exp}
-use Rattle.powers.specs.Value.{powerDigits, roundedPower, naturalCut, expOf}
+use Rattle.powers.specs.Value.{roundedPower, naturalCut, expOf}
 use Rattle.powers.proofs.Method.{D}
 use Rattle.powers.proofs.Rounding.{digits-zero, digits-most, digits-least}
 use Rattle.powers.proofs.Order.{exponentOf, fractionDigits, first, pattern-in, pattern-is, units-mono}

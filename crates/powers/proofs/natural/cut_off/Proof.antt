@@ -1,5 +1,4 @@
 -- `powers::natural::cut_off` meets its contract: each sign is a law of `NaturalTaken`. Assumes nothing.
-use borrow.Author.Needs.{needs}
 use mathlib.Core.Path.{ap, _∙_}
 use Prim.Native.Nat.{ℕ, _+_, _-_}
 use native.Mathlib.Nat.{le-trans, le-of-eq}

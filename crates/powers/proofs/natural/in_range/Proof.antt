@@ -1,5 +1,5 @@
 -- `powers::natural::in_range` tells whether x is from -87 to 88. Assumes nothing.
-use mathlib.Core.Path.{_≡_, sym, subst}
+use mathlib.Core.Path.{sym, subst}
 use mathlib.Core.Logic.{inr}
 use native.Mathlib.Omega.{arith}
 use lib.Dec.{T}
