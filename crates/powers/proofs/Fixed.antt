@@ -1,5 +1,5 @@
 -- The powers of 2 and of e in fixed point against the real numbers, and their order. Assumes nothing.
-use mathlib.Core.Path.{_≡_, refl, sym}
+use mathlib.Core.Path.{_≡_, sym, ap}
 use mathlib.Core.Bool.{true, false}
 use Prim.Native.Nat.{ℕ, _+_, _-_, _*_, _/_, _%_, _^_, _≤_, _<_}
 use native.Mathlib.Nat.{le-trans, le-of-eq, mul-le-mul-left, mul-le-mul-right, le-of-mul-le-mul-right, div-mul-le-self}
@@ -107,11 +107,9 @@ exponent-least true x h = within (stepsIn (P x)) (stepsIn (N x)) (few-steps (N x
     within p n l = omega arith
 
 -- ---- the whole promise of a power in fixed point
-pub fixed : (base : Base) (x : Float) → Accepts x → FixedPower base x (fixedDigits base x) (fixedExponent base x)
+pub fixed : (base : Base) (x : Float) → Accepts x → FixedPower base x
 unfolding fixedDigits fixedExponent
 fixed base x a = record {
-  digits = refl;
-  whole-part = refl;
   least = raised-first (f base x a);
   most = raised-top (f base x a) (fraction base x a);
   at-most = above base x a;
@@ -119,3 +117,13 @@ fixed base x a = record {
   exponents = λ x′ l. exponents-mono base x x′ l;
   order = λ x′ l. powers-mono base x x′ l;
 }
+
+-- the program's digits and exponent are these
+module _ (base : Base) (x : Float) {c : ℕ} (e : c ≡ argumentOf base x) where
+  pub digits-of : raised (c % 2 ^ 32) ≡ fixedDigits base x
+  unfolding fixedDigits
+  digits-of = ap (λ (X : ℕ). raised (X % 2 ^ 32)) e
+
+  pub exponent-of : c / 2 ^ 32 ≡ fixedExponent base x
+  unfolding fixedExponent
+  exponent-of = ap (λ (X : ℕ). X / 2 ^ 32) e

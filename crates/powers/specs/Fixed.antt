@@ -1,5 +1,4 @@
 -- The powers of 2 and of e in fixed point, on which softmax is built: digits and an exponent, before any rounding to a float. A reader of the promises need not read this. Definitions only.
-use mathlib.Core.Path.{_≡_}
 use mathlib.Core.Bool.{true, false}
 use Prim.Native.Nat.{ℕ, _+_, _*_, _/_, _%_, _^_, _≤_}
 use lib.Ieee.{Float}
@@ -33,17 +32,15 @@ fixedAbove = 2
 abbrev pub fixedBelow : ℕ
 fixedBelow = 8
 
--- r digits with the exponent e are the base to the power x in fixed point
-pub record FixedPower (base : Base) (x : Float) (r e : ℕ) : Type 0 where
-  pub digits : r ≡ fixedDigits base x
-  pub whole-part : e ≡ fixedExponent base x
+-- these digits and this exponent are the base to the power x in fixed point
+pub record FixedPower (base : Base) (x : Float) : Type 0 where
   -- from 1 to 2
-  pub least : 2 ^ 32 ≤ r
-  pub most : r ≤ 2 ^ 33
-  -- r 2 ^ e / 2 ^ 158 is at most (1 + 2 / 2 ^ 32) times the power
-  pub at-most : PowerAtMost base (2 ^ 32 * (r * 2 ^ e)) ((2 ^ 32 + fixedAbove) * 2 ^ 158) x
+  pub least : 2 ^ 32 ≤ fixedDigits base x
+  pub most : fixedDigits base x ≤ 2 ^ 33
+  -- over 2 ^ 158 it is at most (1 + 2 / 2 ^ 32) times the power
+  pub at-most : PowerAtMost base (2 ^ 32 * fixedPower base x) ((2 ^ 32 + fixedAbove) * 2 ^ 158) x
   -- and the power at most (1 + 8 / 2 ^ 32) of it
-  pub at-least : PowerAtLeast base ((2 ^ 32 + fixedBelow) * (r * 2 ^ e)) (2 ^ 32 * 2 ^ 158) x
+  pub at-least : PowerAtLeast base ((2 ^ 32 + fixedBelow) * fixedPower base x) (2 ^ 32 * 2 ^ 158) x
   -- a larger input has no smaller exponent, and no smaller power
-  pub exponents : (x′ : Float) → Le x′ x → fixedExponent base x′ ≤ e
-  pub order : (x′ : Float) → Le x′ x → fixedPower base x′ ≤ r * 2 ^ e
+  pub exponents : (x′ : Float) → Le x′ x → fixedExponent base x′ ≤ fixedExponent base x
+  pub order : (x′ : Float) → Le x′ x → fixedPower base x′ ≤ fixedPower base x

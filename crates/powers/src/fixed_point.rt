@@ -1,13 +1,15 @@
-// Powers of either base in fixed point, before any rounding to a float.
+// Powers of either base in fixed point, before any rounding to a float: an argument, of whose fraction are the digits, and whose whole part is the exponent.
 
 ghost use mathlib.Core.Path.{_≡_};
+ghost use Prim.Native.Nat.{_/_, _%_, _^_};
+ghost use Rattle.powers.specs.Raised.{raised};
 ghost use Rattle.powers.specs.Exp.{Accepts};
-ghost use Rattle.powers.specs.Fixed.{argumentOf, FixedPower};
+ghost use Rattle.powers.specs.Fixed.{argumentOf};
 
-// x + 126, or x log2 e + 126 where the base is e, as a whole number of 2^-32.
-fn argument(natural: bool, x: f32) -> u64
+// x + 126, or x log2 e + 126 where the base is e, as a whole number of 2^-32; x from -87 to 88.
+pub fn argument(natural: bool, x: f32) -> u64
     requires { ⌜ Accepts x ⌝ }
-    ensures { λ r. ⌜ r ≡ argumentOf natural x ⌝ }
+    ensures { λ c. ⌜ c ≡ argumentOf natural x ⌝ }
 {
     if natural {
         super::natural::cut_off(x)
@@ -16,20 +18,16 @@ fn argument(natural: bool, x: f32) -> u64
     }
 }
 
-// Digits and an exponent: r * 2^(e - 158).
-pub struct Digits {
-    pub r: u64,
-    pub e: u32,
+// The digits r of the power r * 2^(e - 158).
+pub fn digits(c: u64) -> u64
+    ensures { λ r. ⌜ r ≡ raised (c % 2 ^ 32) ⌝ }
+{
+    0x1_0000_0000 + super::raise((c % 4294967296) as u32) as u64
 }
 
-// 2 to the power x, or e to it, x from -87 to 88: the power of the fraction of its argument, and its whole part.
-pub fn fixed_power(natural: bool, x: f32) -> Digits
-    requires { ⌜ Accepts x ⌝ }
-    ensures { λ t. ⌜ FixedPower natural x (t .r) (t .e) ⌝ }
+// And its exponent e.
+pub fn exponent(c: u64) -> u32
+    ensures { λ e. ⌜ e ≡ c / 2 ^ 32 ⌝ }
 {
-    let c = argument(natural, x);
-    Digits {
-        r: 0x1_0000_0000 + super::raise((c % 4294967296) as u32) as u64,
-        e: (c / 4294967296) as u32,
-    }
+    (c / 4294967296) as u32
 }

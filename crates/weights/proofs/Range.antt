@@ -16,7 +16,7 @@ use Rattle.units.proofs.Between.{size-between, between-size}
 use Rattle.fixed.proofs.Take.{no-nan}
 use Rattle.powers.specs.Exp as exp
 use Rattle.powers.specs.Base.{Base}
-use Rattle.powers.specs.Fixed.{fixedDigits, fixedExponent, FixedPower}
+use Rattle.powers.specs.Fixed.{fixedExponent, FixedPower}
 use Rattle.powers.proofs.Fixed.{fixed, exponent-least, exponent-most}
 use Rattle.weights.specs.Softmax.{Element}
 
@@ -53,7 +53,7 @@ module _ (x : Float) (a : Element x) where
   power-accepts = record { number = a .number; at-least = le-trans (a .at-least) (lit≤ tt); at-most = le-trans (a .at-most) (lit≤ tt) }
 
   -- the power in fixed point
-  pub power : (base : Base) → FixedPower base x (fixedDigits base x) (fixedExponent base x)
+  pub power : (base : Base) → FixedPower base x
   power base = fixed base x power-accepts
 
   pub exponent-low : (base : Base) → 33 ≤ fixedExponent base x

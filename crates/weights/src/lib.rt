@@ -104,9 +104,10 @@ fn share(natural: bool, x: f32, e: u32) -> u64
     requires { ⌜ Element x × (fixedExponent natural x ≤ e) ⌝ }
     ensures { λ s. ⌜ s ≡ shareOf natural e x ⌝ }
 {
-    let t = powers::fixed_point::fixed_power(natural, x);
-    if e - t.e < 64 {
-        ((t.r * 1048576) >> (e - t.e)) + 1
+    let c = powers::fixed_point::argument(natural, x);
+    let k = e - powers::fixed_point::exponent(c);
+    if k < 64 {
+        ((powers::fixed_point::digits(c) * 1048576) >> k) + 1
     } else {
         1
     }
@@ -150,8 +151,9 @@ fn scale(natural: bool, x: &[f32], p: &[u32], k: u32) -> Factor
     requires { ⌜ Sized (now x) (now p) × (0 < length (now p)) × (length (now p) ≤ 1024) × Elements (sourceOf (now x) (now p)) × (k ≡ topKey (sourceOf (now x) (now p))) ⌝ }
     ensures { λ t. ⌜ (t .r ≡ factorOf natural (sourceOf (now (x .entry)) (now (p .entry)))) × (t .c ≡ placesOf natural (sourceOf (now (x .entry)) (now (p .entry)))) ⌝ }
 {
-    let t = powers::fixed_point::fixed_power(natural, f32::from_bits(unlocked(k)));
-    reciprocal(total(natural, x, p, t.e), t.e)
+    let top = f32::from_bits(unlocked(k));
+    let e = powers::fixed_point::exponent(powers::fixed_point::argument(natural, top));
+    reciprocal(total(natural, x, p, e), e)
 }
 
 // The pattern of the power of x times the scale, n * 2^(e - 40 - c) least floats, rounded once; below 2^-125 there are 24 digits at most,
@@ -160,9 +162,9 @@ fn weight(natural: bool, x: f32, r: u32, c: u32) -> u32
     requires { ⌜ Element x × Scaling r c × AtMostOne (fixedPower natural x) r c ⌝ }
     ensures { λ b. ⌜ b ≡ weightBits natural r c x ⌝ }
 {
-    let t = powers::fixed_point::fixed_power(natural, x);
-    let n = t.r * (r as u64);
-    let e = t.e + 115;
+    let a = powers::fixed_point::argument(natural, x);
+    let n = powers::fixed_point::digits(a) * (r as u64);
+    let e = powers::fixed_point::exponent(a) + 115;
     if c < e {
         fixed::nearest_bits(n, e - c)
     } else if c + 40 - e < 64 {
