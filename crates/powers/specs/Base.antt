@@ -10,9 +10,11 @@ use Rattle.exact.specs.Exponential.{ExpAtMost, ExpAtLeast}
 abbrev pub Base : Type 0
 Base = Bool
 
+-- the base 2
 abbrev pub two : Base
 two = false
 
+-- the base e
 abbrev pub natural : Base
 natural = true
 
