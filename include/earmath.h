@@ -143,11 +143,18 @@ uint32_t ear_cos(float x, float *out);
  * The dot product: the sum of a[i] * b[i], for lists of na and nb floats.
  *
  * Accepts: na = nb = n <= 65,536, every element finite, every intermediate
- *          result finite. The order is s = +0, then s = s + a[i] * b[i] for i
- *          from 0 on, each product and each sum rounded: those are the
- *          intermediate results.
+ *          result finite.
+ * Adds:    in pairs. Write the n rounded products in a row. Add neighbours, the
+ *          first and the second, the third and the fourth, and so on, each sum
+ *          rounded; of an odd number the last stays as it is. That is the next
+ *          row. Do the same with it, until one number is left: the result. So
+ *          five products are ((p1 + p2) + (p3 + p4)) + p5. The products and all
+ *          these sums are the intermediate results.
  * Result:  |*out - exact| <= G * (sum of |a[i] * b[i]|) + n * 2^-149, with
- *          G = n u / (1 - n u) and u = 2^-24. For n = 0 it is +0.
+ *          G = (h + 1) u / (1 - (h + 1) u), u = 2^-24 and h the number of rows
+ *          after the first: the least whole number with 2^h >= n, which is 6 for
+ *          n = 64 and 16 for n = 65,536. For n = 0 it is +0. (-0 where all
+ *          rounded products are -0.)
  * Refuses: with the first of these codes that applies; *out stays as it was.
  *          EAR_BAD_LENGTH where na and nb differ or are above 65,536;
  *          EAR_OUT_OF_RANGE where an element is a NaN or an infinity;
@@ -167,8 +174,8 @@ uint32_t ear_dot(const float *a, uint64_t na, const float *b, uint64_t nb, float
  * Result:  with q[i] for the real quotient,
  *          (1 - e) q[i] - 2^-149 <= p[i] <= (1 + e) q[i], e = 273 / 2^32,
  *          below 2^-23.9. Every p[i] is from 0 to 1, and the exact sum of
- *          all of them is within 263 / 2^32 of 1. So rel 2^-13 where q[i] is
- *          at least 2^-100, abs 2^-100 elsewhere and 2^-13 for the sum are kept.
+ *          all of them is within 263 / 2^32 of 1. So rel 2^-17 where q[i] is
+ *          at least 2^-100, abs 2^-100 elsewhere and 2^-20 for the sum are kept.
  * Order:   x[i] <= x[j] gives p[i] <= p[j], and equal inputs get the same float.
  * Refuses: with the first of these codes that applies; the whole list p stays as
  *          it was, since nothing is written before every input was judged.

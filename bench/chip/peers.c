@@ -22,14 +22,6 @@ float cosine_of_pi(float x)
     return cosf(PI * x);
 }
 
-float plain_loop(const float *a, const float *b, uint32_t n)
-{
-    float sum = 0;
-    for (uint32_t i = 0; i < n; i++)
-        sum += a[i] * b[i];
-    return sum;
-}
-
 uint32_t softmax_in_c(const float *x, uint64_t n, float *p)
 {
     return straight_softmax(exp2f, x, n, p);

@@ -59,24 +59,32 @@ static void draw_lengths(uint32_t *state, uint64_t least, uint64_t most, uint64_
     }
 }
 
-enum { LONGEST_DRAWN = 42 };
+enum { LONGEST_DRAWN = 42, MORE = 640 };
+
+/* One time in 32 the lists are longer, for the blocks of 64 and their counter. */
+static uint32_t draw_more(uint32_t *state, uint64_t nx, uint64_t ny)
+{
+    bool longer = draw(state) % 32 == 0 && nx == ny && nx <= LONGEST_DRAWN;
+    return longer ? draw(state) % MORE : 0;
+}
 
 static void ask_dot(const struct asked *f, uint32_t pattern, struct answer *a)
 {
-    static union word x[LONGEST_DRAWN + 1], y[LONGEST_DRAWN + 1];
+    static union word x[LONGEST_DRAWN + MORE], y[LONGEST_DRAWN + MORE];
     /* exponents: all that are finite; or such that sums and products overflow; or products are subnormal; or near 0 */
     static const uint32_t lowest[] = {0, 187, 58, 110}, count[] = {255, 4, 8, 30};
     uint32_t state = pattern, way = draw(&state);
     uint64_t nx, ny;
     draw_lengths(&state, 0, 65536, &nx, &ny);
-    for (int i = 0; i <= LONGEST_DRAWN; i++) {
+    uint32_t more = draw_more(&state, nx, ny);
+    for (uint32_t i = 0; i <= LONGEST_DRAWN + more; i++) {
         x[i] = drawn_float(&state, lowest[way % 4], count[way % 4]);
         y[i] = drawn_float(&state, lowest[way % 4], count[way % 4]);
     }
     if (way % 64 == 63)
         (way & 64 ? x : y)[way / 128 % LONGEST_DRAWN].bits |= 0x7f800000;
     preset(a, 1, pattern);
-    a->code = f->call.dot(&x[0].value, nx, &y[0].value, ny, &a->after[GUARD].value);
+    a->code = f->call.dot(&x[0].value, nx + more, &y[0].value, ny + more, &a->after[GUARD].value);
 }
 
 static void ask_softmax(const struct asked *f, uint32_t pattern, struct answer *a)

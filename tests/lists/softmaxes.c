@@ -25,7 +25,7 @@ const char *const softmax_fault_names[SOFTMAX_FAULTS] = {
 };
 
 const struct softmax_limits proved = {273 * 0x1p-32, 1, 263 * 0x1p-32};
-const struct softmax_limits asked = {0x1p-13, 0x1p49, 0x1p-13};
+const struct softmax_limits asked = {0x1p-17, 0x1p49, 0x1p-20};
 
 static struct between {
     mpfr_t low, high;

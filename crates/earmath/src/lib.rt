@@ -86,7 +86,7 @@ pub extern "C" fn ear_cos(x: f32, out: &mut u32) -> u32
     circle::cos(x, out)
 }
 
-// The sum of the products of two lists, within G times the sum of their sizes; or code 2, 1 or 3 and nothing written.
+// The sum of the products of two lists, neighbours added in pairs, within G times the sum of their sizes; or code 2, 1 or 3 and nothing written.
 #[no_mangle]
 pub extern "C" fn ear_dot(a: &[f32], b: &[f32], out: &mut u32) -> u32
     ensures { λ code. ⌜ Ends floatBits (Dot (now (a .entry)) (now (b .entry))) code (now (out .entry)) (now (out .exit)) ⌝ }

@@ -1,4 +1,4 @@
--- What document 01 asks follows from the promise: the powers in fixed point are an enclosure themselves, which tells how large p_i is where q_i is above or below 2 ^ -100.
+-- What document 01 and change request Q3 ask follows from the promise: the powers in fixed point are an enclosure themselves, which tells how large p_i is where q_i is above or below 2 ^ -100.
 -- Assumes nothing.
 use mathlib.Core.Path.{_≡_}
 use mathlib.Core.Logic.{inl, inr}
@@ -143,7 +143,7 @@ module _ (base : Base) (xs : List Float) (all : Elements xs) where
         (le-trans (mul-le-mul-left softmaxErrorDen (mul-le-mul-left p (sum-least (D * D)))) (near .most below above _ own i h)) (le-trans (q .holds below above _ own) (sum-most k))
 
 -- ---- the laws: from the promise to what is asked
--- rel 1 / b where q_i ≥ 2 ^ -100, otherwise abs 2 ^ -100, for every b up to 2 ^ 23; document 01 has b = 2 ^ 13
+-- rel 1 / b where q_i ≥ 2 ^ -100, otherwise abs 2 ^ -100, for every b up to 2 ^ 23
 pub as-asked : (base : Base) (b : ℕ) → b ≤ 2 ^ 23 → (xs ps : List Float) → Elements xs → NearQuotients base softmaxErrorNum softmaxErrorDen xs ps → Asked base b xs ps
 as-asked base b fine xs ps all near = record {
   relative = λ i h q. record {
@@ -171,3 +171,7 @@ whole-as-asked b fine ps w = record {
 
     below : (W M : ℕ) → (wholeErrorDen - wholeErrorNum) * M ≤ wholeErrorDen * W → (b - 1) * M ≤ b * W
     below W M h = ratio-weaker M W (wholeErrorDen - wholeErrorNum) wholeErrorDen (b - 1) b (lit< tt) (omega arith) (omega arith)
+
+-- change request Q3's two numbers, rel 2 ^ -17 and 2 ^ -20 for the sum of all p_i; document 01 had 2 ^ -13 for both
+pub as-asked-in-pairs : (base : Base) (xs ps : List Float) → Elements xs → NearQuotients base softmaxErrorNum softmaxErrorDen xs ps → Whole wholeErrorNum wholeErrorDen ps → Asked base (2 ^ 17) xs ps × Whole 1 (2 ^ 20) ps
+as-asked-in-pairs base xs ps all near whole = (as-asked base (2 ^ 17) (lit≤ tt) xs ps all near, whole-as-asked (2 ^ 20) (lit≤ tt) ps whole)

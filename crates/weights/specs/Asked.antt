@@ -1,4 +1,4 @@
--- Document 01's two lines on a softmax's error: rel 1 / b where the exact value q_i is at least 2 ^ -100, otherwise abs 2 ^ -100. A reader of the promise need not read this: it is tighter. Definitions only.
+-- Document 01's two lines on a softmax's error, with change request Q3's b = 2 ^ 17 in place of 2 ^ 13: rel 1 / b where the exact value q_i is at least 2 ^ -100, otherwise abs 2 ^ -100. A reader of the promise need not read this: it is tighter. Definitions only.
 use mathlib.Core.List.{List}
 use Prim.Native.Nat.{ℕ, _+_, _-_, _*_, _^_, _≤_, _<_}
 use lib.ListN.{length}
