@@ -14,7 +14,7 @@
 
 /* What differs between the bases: the functions, what section 5's example begins
  * with, its nearest floats, the outputs of -64 beside one 64 and among 64s, and
- * what has a power just below 2^-24 of that of 20. */
+ * what has a power just too small to change a float sum beside that of 20. */
 static const struct base {
     const char *name;
     softmax call;
@@ -28,7 +28,7 @@ static const struct base {
      {0x3e10762c, 0x3e90762c, 0x3f10762c, 0x3c4c4cb1}, 0x1p-128f - 0x1p-149f, 2050 * 0x1p-149f, -4.001f},
     {"ear_softmax", ear_softmax, expf,
      {"0.0897864717905", "0.244064934709", "0.663437276985", "0.0027113165147"},
-     {0x3db7e1f8, 0x3e79ec29, 0x3f29d706, 0x3b31b058}, 0, 0, 3.363f},
+     {0x3db7e1f8, 0x3e79ec29, 0x3f29d706, 0x3b31b058}, 0, 0, 2.77f},
 };
 
 static const struct base *base;
@@ -425,6 +425,7 @@ int main(void)
     open_softmaxes();
     for (base = bases; base < bases + 2; base++) {
         use_base(base == &bases[1]);
+        state = 1; /* both see the same lists */
         all_of_it();
         bases_are_told_apart();
     }
