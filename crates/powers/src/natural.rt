@@ -33,15 +33,18 @@ pub fn cut_off(x: f32) -> u64
     }
 }
 
-// From -87 to 88: of patterns up to 88's, and from -0's to that of -87.
+// From -87 to 88: of sizes up to 87, where nearly all arguments are, one test of the pattern says so; else of patterns up to 88's.
 fn in_range(x: f32) -> bool
     ensures { λ r. ⌜ Tells (Accepts x) r ⌝ }
 {
-    let b = fixed::bits_of(x);
-    if b < 0x8000_0000 {
-        return b <= 0x42b0_0000;
+    if x != x {
+        return false;
     }
-    b <= 0xc2ae_0000
+    let b = f32::to_bits(x);
+    if b % 2147483648 <= 0x42ae_0000 {
+        return true;
+    }
+    b <= 0x42b0_0000
 }
 
 // e to the power x; code 1 and nothing written where x is a NaN, below -87 or above 88.
