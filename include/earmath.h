@@ -246,6 +246,25 @@ uint32_t ear_loudness_top(uint32_t top, float b, float m, uint32_t t, uint32_t c
 uint32_t ear_loudness_knee(uint32_t top, float b, float k, float m, uint32_t t, uint32_t kk, uint32_t c, float a,
                            uint32_t *out);
 
+/*
+ * The dot product as the nearest float: the sum of a[i] * b[i], rounded once.
+ *
+ * Accepts: na = nb = n <= 4,096, every element 0 or from 2^-40 to 2^40 in size.
+ * Result:  the float nearest to the exact sum, ties to even: no finite float is
+ *          nearer. So |*out - exact| <= u * |exact| with u = 2^-24, whatever
+ *          cancels. Where the exact sum is 0 it is +0, and so for n = 0.
+ * Order:   the result depends on the exact sum alone: the same pairs of elements
+ *          in any order give the same bits.
+ * Refuses: with the first of these codes that applies; *out stays as it was.
+ *          EAR_BAD_LENGTH where na and nb differ or are above 4,096;
+ *          EAR_OUT_OF_RANGE where an element is a NaN, an infinity, or neither 0
+ *          nor from 2^-40 to 2^40 in size. Nothing overflows.
+ *
+ * a and b must be valid, aligned pointers to na and nb floats, and *out a float
+ * of neither list. A call takes 856 bytes of stack on a Cortex-M4F.
+ */
+uint32_t ear_dot_nearest(const float *a, uint64_t na, const float *b, uint64_t nb, float *out);
+
 #ifdef __cplusplus
 }
 #endif

@@ -38,6 +38,11 @@ enum evenly { OVER_PATTERNS, OVER_VALUES, IN_LISTS };
 #define DOT(LINE, n) \
     LINE(dot_##n, ear_dot, ear_dot(list, length, other, length, &y), "plain_loop", y = plain_loop(list, other, length), LISTS_OF(n))
 
+/* Its nearest float beside a loop that carries its rounding errors along. */
+#define NEAREST(LINE, n) \
+    LINE(nearest_##n, ear_dot_nearest, ear_dot_nearest(list, length, other, length, &y), "carrying_loop", \
+         carrying_loop(list, other, length, &y), LISTS_OF(n))
+
 /* The contests, a line for each: a name, our function and its call, the rival and its call, the inputs. */
 #define CONTESTS(LINE) \
     LINE(square_root, ear_sqrt, ear_sqrt(x, &y), "newlib_sqrtf", y = newlib_sqrtf(x), EVERY_NORMAL) \
@@ -52,6 +57,7 @@ enum evenly { OVER_PATTERNS, OVER_VALUES, IN_LISTS };
     LINE(sine_of_pi_x, ear_sinpi, ear_sinpi(x, &y), "sine_of_pi", y = sine_of_pi(x), EVERY_ANGLE) \
     LINE(cosine_of_pi_x, ear_cospi, ear_cospi(x, &y), "cosine_of_pi", y = cosine_of_pi(x), EVERY_ANGLE) \
     DOT(LINE, 16) DOT(LINE, 64) DOT(LINE, 1024) DOT(LINE, 65536) \
+    NEAREST(LINE, 64) NEAREST(LINE, 1024) \
     LINE(softmax, ear_softmax2, ear_softmax2(list, length, out, length), "softmax_in_c", softmax_in_c(list, length, out), \
          LISTS_OF(64)) \
     LINE(softmax_of_e, ear_softmax, ear_softmax(list, length, out, length), "softmax_of_e_in_c", \

@@ -22,6 +22,11 @@ float cosine_of_pi(float x)
     return cosf(PI * x);
 }
 
+uint32_t carrying_loop(const float *a, const float *b, uint32_t n, float *out)
+{
+    return straight_carrying(a, b, n, out);
+}
+
 uint32_t softmax_in_c(const float *x, uint64_t n, float *p)
 {
     return straight_softmax(exp2f, x, n, p);

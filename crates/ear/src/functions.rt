@@ -30,7 +30,9 @@ const SOFTMAX2: u32 = 21;
 
 const LOUDNESS: u32 = 22;
 
-const SOFTMAX: u32 = 23;
+const DOT_NEAREST: u32 = 23;
+
+const SOFTMAX: u32 = 24;
 
 // Which function a word names.
 pub fn named(word: &[u8]) -> u32 {
@@ -54,6 +56,8 @@ pub fn named(word: &[u8]) -> u32 {
         COS
     } else if check::same(word, b"dot") {
         DOT
+    } else if check::same(word, b"dot_nearest") {
+        DOT_NEAREST
     } else if check::same(word, b"softmax2") {
         SOFTMAX2
     } else if check::same(word, b"softmax") {
@@ -137,6 +141,14 @@ fn dot(floats: &[f32]) {
     answer(code, r);
 }
 
+// The same as the float nearest to the exact sum.
+fn dot_nearest(floats: &[f32]) {
+    let half = floats.len() / 2;
+    let mut r = 0;
+    let code = earmath::ear_dot_nearest(&floats[0..half], &floats[half..], &mut r);
+    answer(code, r);
+}
+
 // Results, each as an answer.
 fn list(results: &[u32]) {
     let mut i = 0;
@@ -199,6 +211,8 @@ fn loudness(floats: &[f32]) {
 pub fn apply(function: u32, floats: &[f32]) {
     if function == DOT {
         dot(floats);
+    } else if function == DOT_NEAREST {
+        dot_nearest(floats);
     } else if function == SOFTMAX2 || function == SOFTMAX {
         softmax(function, floats);
     } else if function == LOUDNESS {

@@ -11,6 +11,7 @@ ghost use Rattle.powers.specs.Exp.{Exp};
 ghost use Rattle.logs.specs.Log2.{Log2};
 ghost use Rattle.circle.specs.Promise.{SinPi, CosPi, Sin, Cos};
 ghost use Rattle.sums.specs.Dot.{Dot};
+ghost use Rattle.exactsums.specs.Nearest.{NearestDot};
 ghost use Rattle.powers.specs.Base.{two, natural};
 ghost use Rattle.weights.specs.Softmax.{Softmax, floatsOf};
 
@@ -160,4 +161,12 @@ pub extern "C" fn ear_loudness_knee(
     ensures { λ code. ⌜ Ends itself (LoudnessKnee top b k m t kk c a) code (now (out .entry)) (now (out .exit)) ⌝ }
 {
     loudness::knee::loudness_knee(top, b, k, m, t, kk, c, a, out)
+}
+
+// The sum of the products of two lists: the float nearest to the exact sum, or code 2 or 1 and nothing written.
+#[no_mangle]
+pub extern "C" fn ear_dot_nearest(a: &[f32], b: &[f32], out: &mut u32) -> u32
+    ensures { λ code. ⌜ Ends floatBits (NearestDot (now (a .entry)) (now (b .entry))) code (now (out .entry)) (now (out .exit)) ⌝ }
+{
+    exactsums::dot_nearest(a, b, out)
 }
