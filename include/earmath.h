@@ -78,6 +78,19 @@ uint32_t ear_rsqrt(float x, float *out);
 uint32_t ear_exp2(float x, float *out);
 
 /*
+ * e to the power x.
+ *
+ * Accepts: every x with -87 <= x <= 88.
+ * Result:  within 515 / 2^33 (below 2^-23.99) of the real number e^x,
+ *          relatively. Exactly 1 where x is 0, of either sign. Always a normal
+ *          float.
+ * Order:   never falls as x grows.
+ * Refuses: NaN, both infinities, every x < -87 and every x > 88 with
+ *          EAR_OUT_OF_RANGE; *out stays as it was.
+ */
+uint32_t ear_exp(float x, float *out);
+
+/*
  * The logarithm to base two.
  *
  * Accepts: every finite x >= 2^-126, the normal floats above zero.
@@ -180,6 +193,13 @@ uint32_t ear_softmax2(const float *x, uint64_t nx, float *p, uint64_t np);
  * and the same bits. On a refusal the list is bit for bit what it was.
  */
 uint32_t ear_softmax2_in_place(float *p, uint64_t n);
+
+/*
+ * Softmax, base e: p[i] is e^x[i] over the sum of e^x[j] for all j. The same promise
+ * as of ear_softmax2, with the same bounds, codes and order. (The least quotient is
+ * about e^-128 or 2^-184.7: below 2^-149 the output is +0, and within one least float.)
+ */
+uint32_t ear_softmax(const float *x, uint64_t nx, float *p, uint64_t np);
 
 /*
  * The loudness map: from the envelope of one channel to a whole current step.

@@ -32,6 +32,11 @@ uint32_t softmax_in_c(const float *x, uint64_t n, float *p)
     return straight_softmax(exp2f, x, n, p);
 }
 
+uint32_t softmax_of_e_in_c(const float *x, uint64_t n, float *p)
+{
+    return straight_softmax(expf, x, n, p);
+}
+
 uint32_t map_in_c(float b, float m, uint32_t t, uint32_t c, float a, uint32_t *out)
 {
     return straight_map(log2f, (struct channel){b, m, t, c}, a, out);

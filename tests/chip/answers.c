@@ -170,6 +170,7 @@ const struct asked every_function[] = {
     SINGLE(ear_sqrt),
     SINGLE(ear_rsqrt),
     SINGLE(ear_exp2),
+    SINGLE(ear_exp),
     SINGLE(ear_log2),
     SINGLE(ear_sinpi),
     SINGLE(ear_cospi),
@@ -181,6 +182,8 @@ const struct asked every_function[] = {
     {"ear_dot_nearest", ask_nearest, {.dot = ear_dot_nearest},
      1 << EAR_OK | 1 << EAR_OUT_OF_RANGE | 1 << EAR_BAD_LENGTH, 16, false},
     {"ear_softmax2", ask_softmax, {.softmax = ear_softmax2},
+     1 << EAR_OK | 1 << EAR_OUT_OF_RANGE | 1 << EAR_BAD_LENGTH, 16, false},
+    {"ear_softmax", ask_softmax, {.softmax = ear_softmax},
      1 << EAR_OK | 1 << EAR_OUT_OF_RANGE | 1 << EAR_BAD_LENGTH, 16, false},
     {"ear_loudness", ask_map, {.map = ear_loudness}, 1 << EAR_OK | 1 << EAR_OUT_OF_RANGE | 1 << EAR_BAD_CHANNEL, 1, false},
 };

@@ -22,6 +22,8 @@ const SIN: u32 = 7;
 
 const COS: u32 = 8;
 
+const EXP: u32 = 9;
+
 const DOT: u32 = 20;
 
 const SOFTMAX2: u32 = 21;
@@ -29,6 +31,8 @@ const SOFTMAX2: u32 = 21;
 const LOUDNESS: u32 = 22;
 
 const DOT_NEAREST: u32 = 23;
+
+const SOFTMAX: u32 = 24;
 
 // Which function a word names.
 pub fn named(word: &[u8]) -> u32 {
@@ -38,6 +42,8 @@ pub fn named(word: &[u8]) -> u32 {
         RSQRT
     } else if check::same(word, b"exp2") {
         EXP2
+    } else if check::same(word, b"exp") {
+        EXP
     } else if check::same(word, b"log2") {
         LOG2
     } else if check::same(word, b"sinpi") {
@@ -54,6 +60,8 @@ pub fn named(word: &[u8]) -> u32 {
         DOT_NEAREST
     } else if check::same(word, b"softmax2") {
         SOFTMAX2
+    } else if check::same(word, b"softmax") {
+        SOFTMAX
     } else if check::same(word, b"loudness") {
         LOUDNESS
     } else {
@@ -69,6 +77,8 @@ fn at(function: u32, x: f32, out: &mut u32) -> u32 {
         earmath::ear_rsqrt(x, out)
     } else if function == EXP2 {
         earmath::ear_exp2(x, out)
+    } else if function == EXP {
+        earmath::ear_exp(x, out)
     } else if function == SINPI {
         earmath::ear_sinpi(x, out)
     } else if function == COSPI {
@@ -149,9 +159,18 @@ fn list(results: &[u32]) {
     }
 }
 
+// The weights of the floats, base two or e.
+fn weights_of(function: u32, floats: &[f32], weights: &mut [u32]) -> u32 {
+    if function == SOFTMAX {
+        earmath::ear_softmax(floats, weights)
+    } else {
+        earmath::ear_softmax2(floats, weights)
+    }
+}
+
 // The weight of each of the floats among all of them, or one refusal.
-fn weigh(floats: &[f32], weights: &mut [u32]) {
-    let code = earmath::ear_softmax2(floats, weights);
+fn weigh(function: u32, floats: &[f32], weights: &mut [u32]) {
+    let code = weights_of(function, floats, weights);
     if code == 0 {
         list(weights);
     } else {
@@ -159,11 +178,11 @@ fn weigh(floats: &[f32], weights: &mut [u32]) {
     }
 }
 
-fn softmax2(floats: &[f32]) {
+fn softmax(function: u32, floats: &[f32]) {
     let mut weights = [0; 2048];
     let n = floats.len();
     if n <= 2048 {
-        weigh(floats, &mut weights[0..n]);
+        weigh(function, floats, &mut weights[0..n]);
     }
 }
 
@@ -194,8 +213,8 @@ pub fn apply(function: u32, floats: &[f32]) {
         dot(floats);
     } else if function == DOT_NEAREST {
         dot_nearest(floats);
-    } else if function == SOFTMAX2 {
-        softmax2(floats);
+    } else if function == SOFTMAX2 || function == SOFTMAX {
+        softmax(function, floats);
     } else if function == LOUDNESS {
         loudness(floats);
     } else {

@@ -27,7 +27,7 @@ fn usage() {
     );
     io::write_all(
         STDOUT_FILENO,
-        b"sqrt rsqrt exp2 log2 sinpi cospi sin cos   of each pattern\n",
+        b"sqrt rsqrt exp2 exp log2 sinpi cospi sin cos   of each pattern\n",
     );
     io::write_all(
         STDOUT_FILENO,
@@ -35,7 +35,7 @@ fn usage() {
     );
     io::write_all(
         STDOUT_FILENO,
-        b"softmax2                      the weight of each pattern among all of them\n",
+        b"softmax2 softmax              the weight of each pattern among all of them, base two or e\n",
     );
     io::write_all(
         STDOUT_FILENO,
@@ -92,7 +92,7 @@ fn known(word: &[u8]) -> u32 {
     if function == functions::UNKNOWN {
         complain(
             word,
-            b" is no function: sqrt rsqrt exp2 log2 sinpi cospi sin cos dot dot_nearest softmax2 loudness\n",
+            b" is no function: sqrt rsqrt exp2 exp log2 sinpi cospi sin cos dot dot_nearest softmax2 softmax loudness\n",
         );
     }
     function
