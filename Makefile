@@ -1,16 +1,17 @@
 # make         proves and builds build/libearmath.a and the program build/earmath, then compiles and runs the example
 # make test    the gate, .ci/run: all proofs, and the tests of the archive from C
 # make every   all 2^32 patterns through each function of one argument, ONLY=ear_exp2 for one of
-#              them, and all floats of three channels through the loudness map (some minutes)
+#              them, and all floats of three channels through each loudness map (some minutes)
 # make others  all 2^32 patterns through newlib's and glibc's functions, judged as ours are (some minutes)
 # make bench   speed beside newlib's and glibc's functions, and beside a loop in C; writes docs/bench.txt
+# make filter  64 taps over a second of sound, examples/filter.c: its error beside the promise, its speed beside a plain loop
 # make times   seconds and peak memory of each crate's check
 # make chip    the archive for a Cortex-M4F; chip/rules.mk says what else there is for the chip
 
 CC = cc
 CFLAGS = -O2 -Wall -Wextra
 LIBRARY = build/libearmath.a
-TESTS = values refusals spread wrong modes dot softmax transform currents loudness loudness_wrong top knee
+TESTS = values refusals spread wrong modes dot dot_nearest softmax transform currents loudness loudness_wrong top knee
 
 # Tests stand in folders by subject. What is no test or sweep there is a helper that all of them share.
 FOLDERS = tests/harness tests/functions tests/lists tests/loudness tests/chip
@@ -21,16 +22,16 @@ TEST_FLAGS = -std=c11 -D_POSIX_C_SOURCE=200809L $(CFLAGS) -pthread -Iinclude $(F
 vpath %.c $(FOLDERS)
 CRATES = crates.txt $(shell find crates -type f)
 
-.PHONY: all test tests every others bench times clean tools-for-make mpfr
+.PHONY: all test tests every others bench filter times clean tools-for-make mpfr
 .DELETE_ON_ERROR:
 
-all: build/roots build/growth.svg build/earmath
+all: build/roots build/growth.svg build/filter build/earmath
 	@echo "The library is proved and built: $(LIBRARY). The example examples/roots.c, linked with it, says:"
 	@echo
 	@build/roots
 	@echo
 	@echo "So results are the nearest floats, and what has no result is refused with nothing written."
-	@echo "A channel's loudness map is drawn in build/growth.svg; build/growth prints it, for any channel."
+	@echo "A channel's loudness map is drawn in build/growth.svg; build/growth prints it, for any channel. build/filter filters a second of sound."
 	@echo "Any value can be asked for by bit patterns: build/earmath exp2 40490fdb says $$(build/earmath exp2 40490fdb)."
 
 test:
@@ -54,6 +55,9 @@ build/others: every.c build/helpers.a $(LIBRARY) build/newlib/newlib.o $(HEADERS
 
 bench: $(LIBRARY)
 	bench/run
+
+filter: build/filter
+	build/filter
 
 times: tools-for-make
 	@tools/times
@@ -81,11 +85,13 @@ build/earmath: $(CRATES) | tools-for-make
 	cp target/bin/ear $@
 
 # The examples are plain C99, as the header is.
-build/roots build/growth: build/%: examples/%.c include/earmath.h $(LIBRARY)
+build/roots build/growth build/filter: build/%: examples/%.c include/earmath.h $(LIBRARY)
 	$(CC) -std=c99 -pedantic $(CFLAGS) -Iinclude $< $(LIBRARY) -lm -o $@
 
 build/growth.svg: build/growth
 	build/growth --svg >$@
+	build/growth --svg --top 1023 0.001 0.316227766 200 900 >build/growth-1023.svg
+	build/growth --svg --knee 0.02 170 0.001 0.316227766 100 200 >build/growth-knee.svg
 
 build/helpers/%.o: %.c $(HEADERS) | mpfr
 	@mkdir -p $(@D)

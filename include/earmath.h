@@ -78,6 +78,19 @@ uint32_t ear_rsqrt(float x, float *out);
 uint32_t ear_exp2(float x, float *out);
 
 /*
+ * e to the power x.
+ *
+ * Accepts: every x with -87 <= x <= 88.
+ * Result:  within 515 / 2^33 (below 2^-23.99) of the real number e^x,
+ *          relatively. Exactly 1 where x is 0, of either sign. Always a normal
+ *          float.
+ * Order:   never falls as x grows.
+ * Refuses: NaN, both infinities, every x < -87 and every x > 88 with
+ *          EAR_OUT_OF_RANGE; *out stays as it was.
+ */
+uint32_t ear_exp(float x, float *out);
+
+/*
  * The logarithm to base two.
  *
  * Accepts: every finite x >= 2^-126, the normal floats above zero.
@@ -130,11 +143,18 @@ uint32_t ear_cos(float x, float *out);
  * The dot product: the sum of a[i] * b[i], for lists of na and nb floats.
  *
  * Accepts: na = nb = n <= 65,536, every element finite, every intermediate
- *          result finite. The order is s = +0, then s = s + a[i] * b[i] for i
- *          from 0 on, each product and each sum rounded: those are the
- *          intermediate results.
+ *          result finite.
+ * Adds:    in pairs. Write the n rounded products in a row. Add neighbours, the
+ *          first and the second, the third and the fourth, and so on, each sum
+ *          rounded; of an odd number the last stays as it is. That is the next
+ *          row. Do the same with it, until one number is left: the result. So
+ *          five products are ((p1 + p2) + (p3 + p4)) + p5. The products and all
+ *          these sums are the intermediate results.
  * Result:  |*out - exact| <= G * (sum of |a[i] * b[i]|) + n * 2^-149, with
- *          G = n u / (1 - n u) and u = 2^-24. For n = 0 it is +0.
+ *          G = (h + 1) u / (1 - (h + 1) u), u = 2^-24 and h the number of rows
+ *          after the first: the least whole number with 2^h >= n, which is 6 for
+ *          n = 64 and 16 for n = 65,536. For n = 0 it is +0. (-0 where all
+ *          rounded products are -0.)
  * Refuses: with the first of these codes that applies; *out stays as it was.
  *          EAR_BAD_LENGTH where na and nb differ or are above 65,536;
  *          EAR_OUT_OF_RANGE where an element is a NaN or an infinity;
@@ -154,8 +174,8 @@ uint32_t ear_dot(const float *a, uint64_t na, const float *b, uint64_t nb, float
  * Result:  with q[i] for the real quotient,
  *          (1 - e) q[i] - 2^-149 <= p[i] <= (1 + e) q[i], e = 273 / 2^32,
  *          below 2^-23.9. Every p[i] is from 0 to 1, and the exact sum of
- *          all of them is within 263 / 2^32 of 1. So rel 2^-13 where q[i] is
- *          at least 2^-100, abs 2^-100 elsewhere and 2^-13 for the sum are kept.
+ *          all of them is within 263 / 2^32 of 1. So rel 2^-17 where q[i] is
+ *          at least 2^-100, abs 2^-100 elsewhere and 2^-20 for the sum are kept.
  * Order:   x[i] <= x[j] gives p[i] <= p[j], and equal inputs get the same float.
  * Refuses: with the first of these codes that applies; the whole list p stays as
  *          it was, since nothing is written before every input was judged.
@@ -193,6 +213,13 @@ uint32_t ear_softmax2_in_place(float *p, uint64_t n);
  * two of the lists may overlap. A call needs 3.1 KB of stack on a Cortex-M4F.
  */
 uint32_t ear_transform128(const float *x, uint64_t nx, float *re, uint64_t nre, float *im, uint64_t nim);
+
+/*
+ * Softmax, base e: p[i] is e^x[i] over the sum of e^x[j] for all j. The same promise
+ * as of ear_softmax2, with the same bounds, codes and order. (The least quotient is
+ * about e^-128 or 2^-184.7: below 2^-149 the output is +0, and within one least float.)
+ */
+uint32_t ear_softmax(const float *x, uint64_t nx, float *p, uint64_t np);
 
 /*
  * The loudness map: from the envelope of one channel to a whole current step.
@@ -274,6 +301,25 @@ struct ear_band {
 
 uint32_t ear_currents(uint32_t top, const float *x, uint64_t nx, const float *w, uint64_t nw,
                       const struct ear_band *bands, uint64_t words, uint32_t *out, uint64_t nout);
+
+/*
+ * The dot product as the nearest float: the sum of a[i] * b[i], rounded once.
+ *
+ * Accepts: na = nb = n <= 4,096, every element 0 or from 2^-40 to 2^40 in size.
+ * Result:  the float nearest to the exact sum, ties to even: no finite float is
+ *          nearer. So |*out - exact| <= u * |exact| with u = 2^-24, whatever
+ *          cancels. Where the exact sum is 0 it is +0, and so for n = 0.
+ * Order:   the result depends on the exact sum alone: the same pairs of elements
+ *          in any order give the same bits.
+ * Refuses: with the first of these codes that applies; *out stays as it was.
+ *          EAR_BAD_LENGTH where na and nb differ or are above 4,096;
+ *          EAR_OUT_OF_RANGE where an element is a NaN, an infinity, or neither 0
+ *          nor from 2^-40 to 2^40 in size. Nothing overflows.
+ *
+ * a and b must be valid, aligned pointers to na and nb floats, and *out a float
+ * of neither list. A call takes 856 bytes of stack on a Cortex-M4F.
+ */
+uint32_t ear_dot_nearest(const float *a, uint64_t na, const float *b, uint64_t nb, float *out);
 
 #ifdef __cplusplus
 }

@@ -14,7 +14,10 @@
 #include "earmath.h"
 #include "peers.h"
 
-enum { LENGTH = 64, VALUES = 128, PARTS = 65, BANDS = 22, INPUTS = 2000, LISTS = 8, TRACED = 32, TRACED_LISTS = 2, DEEPEST = 1536, PAINT = 0x5a5a5a5a };
+enum {
+    LONGEST = 65536, VALUES = 128, PARTS = 65, BANDS = 22, INPUTS = 2000, LISTS = 8, TRACED = 32, TRACED_LISTS = 2, DEEPEST = 1536,
+    PAINT = 0x5a5a5a5a
+};
 
 union word {
     uint32_t bits;
@@ -24,22 +27,33 @@ union word {
 /* Where inputs come from: evenly over the bit patterns from one float to another, or over the values. */
 enum evenly { OVER_PATTERNS, OVER_VALUES, IN_LISTS };
 
-#define EVERY_NORMAL {"normal x > 0", OVER_PATTERNS, FLT_MIN, FLT_MAX}
-#define EVERY_POWER {"-126 <= x <= 127", OVER_VALUES, -126, 127}
-#define EVERY_ANGLE {"-8192 <= x <= 8192", OVER_VALUES, -8192, 8192}
-#define AROUND_ZERO {"-1 <= x <= 1", OVER_VALUES, -1, 1}
-#define BETWEEN {"a from b to m", OVER_PATTERNS, 0.001f, 0.316227766f}
-#define BETWEEN_FITTED {"a from b to m; C fitted", OVER_PATTERNS, 0.001f, 0.316227766f}
+#define EVERY_NORMAL {"normal x > 0", OVER_PATTERNS, FLT_MIN, FLT_MAX, 0}
+#define EVERY_POWER {"-126 <= x <= 127", OVER_VALUES, -126, 127, 0}
+#define EVERY_EXPONENT {"-87 <= x <= 88", OVER_VALUES, -87, 88, 0}
+#define EVERY_ANGLE {"-8192 <= x <= 8192", OVER_VALUES, -8192, 8192, 0}
+#define AROUND_ZERO {"-1 <= x <= 1", OVER_VALUES, -1, 1, 0}
+#define BETWEEN {"a from b to m", OVER_PATTERNS, 0.001f, 0.316227766f, 0}
+#define BETWEEN_FITTED {"a from b to m; C fitted", OVER_PATTERNS, 0.001f, 0.316227766f, 0}
 #define CHANNEL 0.001f, 0.316227766f, 100, 200
-#define LISTS_OF_64 {"n = 64", IN_LISTS, -4, 4}
-#define FRAMES {"a frame", IN_LISTS, -1, 1}
-#define FRAMES_OF_22 {"a frame, 22 bands", IN_LISTS, -1, 1}
+#define FRAMES {"a frame", IN_LISTS, -1, 1, VALUES}
+#define FRAMES_OF_22 {"a frame, 22 bands", IN_LISTS, -1, 1, VALUES}
+#define LISTS_OF(n) {"n = " #n, IN_LISTS, -4, 4, n}
+
+/* A dot product beside the plain loop in C, of any length. */
+#define DOT(LINE, n) \
+    LINE(dot_##n, ear_dot, ear_dot(list, length, other, length, &y), "plain_loop", y = plain_loop(list, other, length), LISTS_OF(n))
+
+/* Its nearest float beside a loop that carries its rounding errors along. */
+#define NEAREST(LINE, n) \
+    LINE(nearest_##n, ear_dot_nearest, ear_dot_nearest(list, length, other, length, &y), "carrying_loop", \
+         carrying_loop(list, other, length, &y), LISTS_OF(n))
 
 /* The contests, a line for each: a name, our function and its call, the rival and its call, the inputs. */
 #define CONTESTS(LINE) \
     LINE(square_root, ear_sqrt, ear_sqrt(x, &y), "newlib_sqrtf", y = newlib_sqrtf(x), EVERY_NORMAL) \
     LINE(reciprocal, ear_rsqrt, ear_rsqrt(x, &y), "reciprocal_root", y = reciprocal_root(x), EVERY_NORMAL) \
     LINE(power_of_two, ear_exp2, ear_exp2(x, &y), "exp2f", y = exp2f(x), EVERY_POWER) \
+    LINE(exponential, ear_exp, ear_exp(x, &y), "expf", y = expf(x), EVERY_EXPONENT) \
     LINE(logarithm, ear_log2, ear_log2(x, &y), "log2f", y = log2f(x), EVERY_NORMAL) \
     LINE(sine, ear_sin, ear_sin(x, &y), "sinf", y = sinf(x), EVERY_ANGLE) \
     LINE(small_sine, ear_sin, ear_sin(x, &y), "sinf", y = sinf(x), AROUND_ZERO) \
@@ -47,10 +61,12 @@ enum evenly { OVER_PATTERNS, OVER_VALUES, IN_LISTS };
     LINE(small_cosine, ear_cos, ear_cos(x, &y), "cosf", y = cosf(x), AROUND_ZERO) \
     LINE(sine_of_pi_x, ear_sinpi, ear_sinpi(x, &y), "sine_of_pi", y = sine_of_pi(x), EVERY_ANGLE) \
     LINE(cosine_of_pi_x, ear_cospi, ear_cospi(x, &y), "cosine_of_pi", y = cosine_of_pi(x), EVERY_ANGLE) \
-    LINE(dot, ear_dot, ear_dot(list, LENGTH, other, LENGTH, &y), "plain_loop", y = plain_loop(list, other, LENGTH), \
-         LISTS_OF_64) \
-    LINE(softmax, ear_softmax2, ear_softmax2(list, LENGTH, out, LENGTH), "softmax_in_c", softmax_in_c(list, LENGTH, out), \
-         LISTS_OF_64) \
+    DOT(LINE, 16) DOT(LINE, 64) DOT(LINE, 1024) DOT(LINE, 65536) \
+    NEAREST(LINE, 64) NEAREST(LINE, 1024) \
+    LINE(softmax, ear_softmax2, ear_softmax2(list, length, out, length), "softmax_in_c", softmax_in_c(list, length, out), \
+         LISTS_OF(64)) \
+    LINE(softmax_of_e, ear_softmax, ear_softmax(list, length, out, length), "softmax_of_e_in_c", \
+         softmax_of_e_in_c(list, length, out), LISTS_OF(64)) \
     LINE(transform, ear_transform128, ear_transform128(list, VALUES, out, PARTS, other, PARTS), "transform_in_c", \
          transform_in_c(list, out, other), FRAMES) \
     LINE(path, ear_currents, ear_currents(255, list, VALUES, other, VALUES, bands, 6 * BANDS, steps, BANDS), "currents_in_c", \
@@ -59,7 +75,8 @@ enum evenly { OVER_PATTERNS, OVER_VALUES, IN_LISTS };
     LINE(fitted_map, ear_loudness, ear_loudness(CHANNEL, x, &step), "fitted_in_c", fitted_in_c(x, &step), \
          BETWEEN_FITTED)
 
-static float list[VALUES], other[VALUES], out[VALUES];
+static float list[LONGEST], other[LONGEST], out[LONGEST];
+static uint32_t length;
 static volatile float y_sink;
 static struct ear_band bands[BANDS];
 static uint32_t steps[BANDS];
@@ -101,6 +118,7 @@ struct contest {
         const char *words;
         enum evenly evenly;
         float from, to;
+        uint32_t length;
     } inputs;
 };
 
@@ -122,10 +140,15 @@ static float drawn(enum evenly evenly, float low, float high)
     return low + (high - low) * (float)(uint32_t)(state >> 40) * 0x1p-24f;
 }
 
-/* The next input; of lists, the next lists. */
+#ifndef TRACE
+#define TRACE false /* true: a program that runs a few calls for a trace, and prints nothing */
+#endif
+
+/* The next input; of lists, the next lists, which stay as they are behind the first 128 where all is traced. */
 static float next(const struct inputs *in)
 {
-    for (int i = 0; in->evenly == IN_LISTS && i < VALUES; i++) {
+    length = in->length;
+    for (uint32_t i = 0; in->evenly == IN_LISTS && i < (TRACE && length > VALUES ? VALUES : length); i++) {
         list[i] = drawn(OVER_VALUES, in->from, in->to);
         other[i] = drawn(OVER_VALUES, in->from, in->to);
     }
@@ -195,10 +218,6 @@ static void traced(const struct contest *c, int who)
     for (int i = 0; i < (c->inputs.evenly == IN_LISTS ? TRACED_LISTS : TRACED); i++)
         c->calls[who](next(&c->inputs));
 }
-
-#ifndef TRACE
-#define TRACE false /* true: a program that runs a few calls for a trace, and prints nothing */
-#endif
 
 int main(void)
 {

@@ -6,11 +6,13 @@
 #include <float.h>
 #include <inttypes.h>
 #include <math.h>
+#include <stdio.h>
 #include <string.h>
 
 #include "dots.h"
 #include "earmath.h"
 #include "exact.h"
+#include "hardest.h"
 #include "judge.h"
 #include "report.h"
 
@@ -62,6 +64,13 @@ static void fill(const struct kind *k, size_t n)
     }
 }
 
+/* A large product, and small ones that a plain loop loses to one side. */
+static void drift(size_t n)
+{
+    for (size_t i = 0; i < n; i++)
+        a[i] = i == 0 ? 0x1p20f : 0x1.fffffep-5f, b[i] = 1;
+}
+
 static struct dot_tally random_lists(dot call, const struct kind *k)
 {
     struct dot_tally t = {0};
@@ -111,7 +120,7 @@ static void of_random_lists(void)
     }
 }
 
-/* The longest lists: random ones, and one whose additions all round the same way. */
+/* The longest lists: random ones, and one whose additions all round the same way in a plain loop. */
 static void of_longest_lists(void)
 {
     struct dot_tally t = {0};
@@ -119,10 +128,44 @@ static void of_longest_lists(void)
         fill(&kinds[i], MOST);
         judge_dot(&t, ear_dot, a, MOST, b, MOST);
     }
-    for (size_t i = 0; i < MOST; i++)
-        a[i] = i == 0 ? 0x1p20f : 0x1.fffffep-5f, b[i] = 1;
+    drift(MOST);
     judge_dot(&t, ear_dot, a, MOST, b, MOST);
     report_lists("n = 65,536", &t);
+}
+
+/* Every length up to 1,100, so every shape of the last blocks, and those next to larger powers of two. */
+static void of_every_length(void)
+{
+    struct dot_tally t = {0};
+    for (size_t n = 1; n <= 1100; n++) {
+        fill(&kinds[n % KINDS], n);
+        judge_dot(&t, ear_dot, a, n, b, n);
+    }
+    for (size_t power = 2048; power <= MOST; power *= 2)
+        for (size_t n = power - 1; n <= power + 1 && n <= MOST; n++) {
+            fill(&kinds[0], n);
+            judge_dot(&t, ear_dot, a, n, b, n);
+        }
+    report_lists("every n up to 1,100, and about larger powers of two", &t);
+}
+
+/* Lists whose errors add up: the bound is nearly reached for two products, and two thirds of it for any number of levels. */
+static void of_hardest_lists(void)
+{
+    uint64_t seen = 0;
+    double least = 1;
+    printf("     errors that add up, as parts of the bound, n = 1, 2, 4, .. 65,536:");
+    for (int levels = 0; levels <= MOST_LEVELS; levels++) {
+        struct dot_tally t = {0};
+        size_t n = (size_t)1 << levels;
+        hardest(a, b, levels);
+        judge_dot(&t, ear_dot, a, n, b, n);
+        seen += faults(&t);
+        least = fmin(least, t.worst);
+        printf(" %.3f", t.worst);
+    }
+    printf("\n");
+    group(seen == 0 && least > 0.66, "lists made so that errors add up keep the bound, and use %.3f of it or more", least);
 }
 
 /* ---- single lists by name */
@@ -146,6 +189,12 @@ static void of_lengths(void)
     group(empty && says(a, 0, b, 0, EAR_OK), "n = 0 gives +0");
     a[0] = -3, b[0] = 0x1.555556p-2f;
     group(says(a, 1, b, 1, EAR_OK), "n = 1 gives the rounded product");
+    bool negative = true;
+    for (size_t n = 1; n <= 300; n++) {
+        a[n - 1] = -0.0f, b[n - 1] = 1;
+        negative &= says(a, n, b, n, EAR_OK) && ear_dot(a, n, b, n, &result) == EAR_OK && bits_of(result) == 0x80000000;
+    }
+    group(negative, "products that are all -0 give -0, for n = 1 to 300");
     ones(MOST + 1);
     group(says(a, MOST, b, MOST, EAR_OK) && says(a, MOST + 1, b, MOST + 1, EAR_BAD_LENGTH),
           "65,536 elements are accepted, 65,537 are refused with code 2");
@@ -163,13 +212,16 @@ static void of_overflows(void)
     static const float big = 0x1p100f, top = FLT_MAX;
     const float product[] = {1, big, 1}, sum[] = {top, top, -top}, last[] = {0x1p126f, 0x1p126f, 0x1p127f};
     const float stays[] = {top, 0x1p-149f, 0x1p102f}, passes[] = {top, 0x1p103f}, back[] = {big, -big};
-    const float one[] = {1, 1, 1};
+    const float one[] = {1, 1, 1, 1};
     group(says(product, 3, product, 3, EAR_OVERFLOW), "an overflow in a product has code 3");
     group(says(sum, 3, one, 3, EAR_OVERFLOW), "an overflow in a sum has code 3, though the exact sum is finite");
     group(says(last, 3, one, 3, EAR_OVERFLOW) && says(last, 2, one, 2, EAR_OK),
           "an overflow only in the final sum has code 3");
     group(says(back, 2, product + 1, 2, EAR_OVERFLOW) && says(back, 2, (float[]){big, big}, 2, EAR_OVERFLOW),
           "infinities of two signs, whose sum is a NaN, have code 3");
+    const float loop_only[] = {0x1p127f, 0, 0x1p127f, -0x1p127f}, pairs_only[] = {-0x1p127f, 0, 0x1p127f, 0x1p127f};
+    group(says(loop_only, 4, one, 4, EAR_OK) && says(pairs_only, 4, one, 4, EAR_OVERFLOW),
+          "the order decides: what overflows in a plain loop alone is a sum, what does in pairs alone has code 3");
     group(says(stays, 3, one, 3, EAR_OK) && says(passes, 2, one, 2, EAR_OVERFLOW),
           "what rounds to the greatest float is a sum, what rounds past it has code 3");
 }
@@ -204,13 +256,13 @@ static void of_elements(void)
     group(longer, "code 2 comes before code 1");
 }
 
-/* The sum of document 02, Q10, whose terms cancel: the bound allows 1 for 2. */
+/* The sum of document 02, Q10, whose terms cancel: the bound allows 0 for 2. */
 static void of_cancellation(void)
 {
     const float x[] = {1e8f, 1, -1e8f, 1}, one[] = {1, 1, 1, 1};
     float result;
-    group(says(x, 4, one, 4, EAR_OK) && ear_dot(x, 4, one, 4, &result) == EAR_OK && result == 1,
-          "(1e8, 1, -1e8, 1) times ones gives 1 where the exact sum is 2, within the bound");
+    group(says(x, 4, one, 4, EAR_OK) && ear_dot(x, 4, one, 4, &result) == EAR_OK && result == 0,
+          "(1e8, 1, -1e8, 1) times ones gives 0 where the exact sum is 2, within the bound");
 }
 
 /* ---- wrong programs */
@@ -256,11 +308,22 @@ static uint32_t one_code_for_both(const float *x, uint64_t nx, const float *y, u
 
 static uint32_t adds_from_the_end(const float *x, uint64_t nx, const float *y, uint64_t ny, float *out)
 {
+    static float from[MOST + 1], with[MOST + 1];
+    for (size_t i = 0; i < nx; i++)
+        from[i] = x[nx - 1 - i];
+    for (size_t i = 0; i < ny; i++)
+        with[i] = y[ny - 1 - i];
+    return ear_dot(from, nx, with, ny, out);
+}
+
+/* The order of before: each product in turn. */
+static uint32_t adds_in_turn(const float *x, uint64_t nx, const float *y, uint64_t ny, float *out)
+{
     float sum = 0;
-    for (size_t i = nx; i-- > 0;)
-        sum += x[i] * y[i];
     if (due_code(x, nx, y, ny) != EAR_OK)
         return due_code(x, nx, y, ny);
+    for (size_t i = 0; i < nx; i++)
+        sum += x[i] * y[i];
     *out = sum;
     return EAR_OK;
 }
@@ -276,7 +339,9 @@ static const struct wrong {
     {"one that writes before it refuses", writes_before_it_refuses, DOT_TOUCHED},
     {"one that takes the shorter length", takes_the_shorter, DOT_CODE},
     {"one with code 1 for code 3", one_code_for_both, DOT_CODE},
-    {"one that adds from the end", adds_from_the_end, DOT_VALUE},
+    {"one that adds in pairs from the end", adds_from_the_end, DOT_VALUE},
+    {"one that adds in turn", adds_in_turn, DOT_VALUE},
+    {"and with an error that grows with n", adds_in_turn, DOT_BOUND},
 };
 
 enum { WRONGS = sizeof wrongs / sizeof wrongs[0] };
@@ -291,6 +356,8 @@ static void reject(const struct wrong *w)
     }
     ones(3);
     judge_dot(&t, w->call, a, 2, b, 3);
+    drift(MOST);
+    judge_dot(&t, w->call, a, MOST, b, MOST);
     group(t.seen[w->fault] > 0, "%s: rejected %" PRIu64 " times of %" PRIu64 " (%s)", w->what, t.seen[w->fault],
           t.calls, dot_fault_names[w->fault]);
 }
@@ -299,7 +366,7 @@ static void reject(const struct wrong *w)
 static void the_bound_is_not_too_tight(void)
 {
     struct dot_tally t = random_lists(adds_from_the_end, &kinds[0]);
-    group(t.seen[DOT_BOUND] == 0, "one that adds from the end keeps the bound, which holds for every order");
+    group(t.seen[DOT_BOUND] == 0, "one that adds in pairs from the end keeps the bound, which holds for every order of so many levels");
 }
 
 int main(void)
@@ -307,6 +374,8 @@ int main(void)
     of_exact_sums();
     of_random_lists();
     of_longest_lists();
+    of_every_length();
+    of_hardest_lists();
     of_lengths();
     of_overflows();
     of_elements();

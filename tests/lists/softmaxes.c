@@ -25,13 +25,20 @@ const char *const softmax_fault_names[SOFTMAX_FAULTS] = {
 };
 
 const struct softmax_limits proved = {273 * 0x1p-32, 1, 263 * 0x1p-32};
-const struct softmax_limits asked = {0x1p-13, 0x1p49, 0x1p-13};
+const struct softmax_limits asked = {0x1p-17, 0x1p49, 0x1p-20};
 
 static struct between {
     mpfr_t low, high;
 } powers[LONGEST], total, quotient;
 
 static mpfr_t sum, gap;
+
+static int (*power)(mpfr_t to, const mpfr_t from, mpfr_rnd_t way) = mpfr_exp2;
+
+void use_base(bool natural)
+{
+    power = natural ? mpfr_exp : mpfr_exp2;
+}
 
 static void open_between(struct between *x)
 {
@@ -73,7 +80,7 @@ static void enclose(const float *x, size_t n)
     mpfr_set_ui(total.high, 0, MPFR_RNDU);
     for (size_t i = 0; i < n; i++) {
         mpfr_set_flt(gap, x[i], MPFR_RNDN);
-        bool exact = mpfr_exp2(powers[i].low, gap, MPFR_RNDD) == 0;
+        bool exact = power(powers[i].low, gap, MPFR_RNDD) == 0;
         mpfr_set(powers[i].high, powers[i].low, MPFR_RNDU);
         if (!exact)
             mpfr_nextabove(powers[i].high);

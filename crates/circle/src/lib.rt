@@ -78,7 +78,10 @@ fn cosine(phase: u64) -> u32
 pub fn sinpi(x: f32, out: &mut u32) -> u32
     ensures { λ code. ⌜ Ends floatBits (SinPi x) code (now (out .entry)) (now (out .exit)) ⌝ }
 {
-    let b = fixed::bits_of(x);
+    if x != x {
+        return 1;
+    }
+    let b = f32::to_bits(x);
     let size = b % 2147483648;
     if size < LATEST {
         *out = sine(phase::half_turns(size), b / 2147483648);
@@ -91,7 +94,10 @@ pub fn sinpi(x: f32, out: &mut u32) -> u32
 pub fn cospi(x: f32, out: &mut u32) -> u32
     ensures { λ code. ⌜ Ends floatBits (CosPi x) code (now (out .entry)) (now (out .exit)) ⌝ }
 {
-    let size = fixed::bits_of(x) % 2147483648;
+    if x != x {
+        return 1;
+    }
+    let size = f32::to_bits(x) % 2147483648;
     if size < LATEST {
         *out = cosine(phase::half_turns(size));
         return 0;
@@ -103,7 +109,10 @@ pub fn cospi(x: f32, out: &mut u32) -> u32
 pub fn sin(x: f32, out: &mut u32) -> u32
     ensures { λ code. ⌜ Ends floatBits (Sin x) code (now (out .entry)) (now (out .exit)) ⌝ }
 {
-    let b = fixed::bits_of(x);
+    if x != x {
+        return 1;
+    }
+    let b = f32::to_bits(x);
     let size = b % 2147483648;
     if size <= LARGEST {
         *out = sine(phase::radians(size), b / 2147483648);
@@ -116,7 +125,10 @@ pub fn sin(x: f32, out: &mut u32) -> u32
 pub fn cos(x: f32, out: &mut u32) -> u32
     ensures { λ code. ⌜ Ends floatBits (Cos x) code (now (out .entry)) (now (out .exit)) ⌝ }
 {
-    let size = fixed::bits_of(x) % 2147483648;
+    if x != x {
+        return 1;
+    }
+    let size = f32::to_bits(x) % 2147483648;
     if size <= LARGEST {
         *out = cosine(phase::radians(size));
         return 0;

@@ -7,12 +7,15 @@ ghost use Rattle.roots.specs.Rsqrt.{Rsqrt};
 ghost use Rattle.loudness.specs.Map.{Loudness};
 ghost use Rattle.loudness.specs.Knee.{LoudnessKnee};
 ghost use Rattle.powers.specs.Exp2.{Exp2};
+ghost use Rattle.powers.specs.Exp.{Exp};
 ghost use Rattle.logs.specs.Log2.{Log2};
 ghost use Rattle.circle.specs.Promise.{SinPi, CosPi, Sin, Cos};
 ghost use Rattle.sums.specs.Dot.{Dot};
 ghost use Rattle.spectrum.specs.Transform.{Transform, bothBits};
 ghost use Rattle.path.specs.Path.{Currents, asTheyAre};
-ghost use Rattle.weights.specs.Softmax.{Softmax2, floatsOf};
+ghost use Rattle.exactsums.specs.Nearest.{NearestDot};
+ghost use Rattle.powers.specs.Base.{two, natural};
+ghost use Rattle.weights.specs.Softmax.{Softmax, floatsOf};
 
 // The square root of every bit pattern: the nearest float, or code 1 and nothing written.
 #[no_mangle]
@@ -36,6 +39,14 @@ pub extern "C" fn ear_exp2(x: f32, out: &mut u32) -> u32
     ensures { λ code. ⌜ Ends floatBits (Exp2 x) code (now (out .entry)) (now (out .exit)) ⌝ }
 {
     powers::exp2(x, out)
+}
+
+// e to the power of every bit pattern: within 515 / 2^33 of it, or code 1 and nothing written.
+#[no_mangle]
+pub extern "C" fn ear_exp(x: f32, out: &mut u32) -> u32
+    ensures { λ code. ⌜ Ends floatBits (Exp x) code (now (out .entry)) (now (out .exit)) ⌝ }
+{
+    powers::natural::exp(x, out)
 }
 
 // The logarithm to base two of every bit pattern: within 33 / 2^29 of it, relatively, and of 1 it is +0; or code 1 and nothing written.
@@ -78,7 +89,7 @@ pub extern "C" fn ear_cos(x: f32, out: &mut u32) -> u32
     circle::cos(x, out)
 }
 
-// The sum of the products of two lists, within G times the sum of their sizes; or code 2, 1 or 3 and nothing written.
+// The sum of the products of two lists, neighbours added in pairs, within G times the sum of their sizes; or code 2, 1 or 3 and nothing written.
 #[no_mangle]
 pub extern "C" fn ear_dot(a: &[f32], b: &[f32], out: &mut u32) -> u32
     ensures { λ code. ⌜ Ends floatBits (Dot (now (a .entry)) (now (b .entry))) code (now (out .entry)) (now (out .exit)) ⌝ }
@@ -90,9 +101,17 @@ pub extern "C" fn ear_dot(a: &[f32], b: &[f32], out: &mut u32) -> u32
 // or 1 and nothing written.
 #[no_mangle]
 pub extern "C" fn ear_softmax2(x: &[f32], p: &mut [u32]) -> u32
-    ensures { λ code. ⌜ Ends listBits (Softmax2 (now (x .entry)) (length (now (p .entry)))) code (now (p .entry)) (now (p .exit)) ⌝ }
+    ensures { λ code. ⌜ Ends listBits (Softmax two (now (x .entry)) (length (now (p .entry)))) code (now (p .entry)) (now (p .exit)) ⌝ }
 {
     weights::softmax2(x, p)
+}
+
+// The same with e in the place of 2, and the same bounds.
+#[no_mangle]
+pub extern "C" fn ear_softmax(x: &[f32], p: &mut [u32]) -> u32
+    ensures { λ code. ⌜ Ends listBits (Softmax natural (now (x .entry)) (length (now (p .entry)))) code (now (p .entry)) (now (p .exit)) ⌝ }
+{
+    weights::softmax(x, p)
 }
 
 // The loudness map of an envelope value a in the channel b, m, t, c: a step within 0.500001 of the exact map, or code 4 or 1 and nothing written.
@@ -107,7 +126,7 @@ pub extern "C" fn ear_loudness(b: f32, m: f32, t: u32, c: u32, a: f32, out: &mut
 // nothing written.
 #[no_mangle]
 pub extern "C" fn ear_softmax2_in_place(p: &mut [u32]) -> u32
-    ensures { λ code. ⌜ Ends listBits (Softmax2 (floatsOf (now (p .entry))) (length (now (p .entry)))) code (now (p .entry)) (now (p .exit)) ⌝ }
+    ensures { λ code. ⌜ Ends listBits (Softmax two (floatsOf (now (p .entry))) (length (now (p .entry)))) code (now (p .entry)) (now (p .exit)) ⌝ }
 {
     weights::softmax2_in_place(p)
 }
@@ -166,4 +185,12 @@ pub extern "C" fn ear_currents(
     ensures { λ code. ⌜ Ends asTheyAre (Currents top (now (x .entry)) (now (w .entry)) (now (bands .entry)) (length (now (out .entry)))) code (now (out .entry)) (now (out .exit)) ⌝ }
 {
     path::currents(top, x, w, bands, out)
+}
+
+// The sum of the products of two lists: the float nearest to the exact sum, or code 2 or 1 and nothing written.
+#[no_mangle]
+pub extern "C" fn ear_dot_nearest(a: &[f32], b: &[f32], out: &mut u32) -> u32
+    ensures { λ code. ⌜ Ends floatBits (NearestDot (now (a .entry)) (now (b .entry))) code (now (out .entry)) (now (out .exit)) ⌝ }
+{
+    exactsums::dot_nearest(a, b, out)
 }

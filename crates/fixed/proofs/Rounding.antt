@@ -3,14 +3,14 @@ use mathlib.Core.Path.{_≡_, refl, sym, ap, _∙_, subst}
 use mathlib.Core.Logic.{inl, inr}
 use mathlib.Core.Bool.{Bool, false, cond}
 use Prim.Native.Nat.{ℕ, suc, _+_, _-_, _*_, _/_, _^_, _≤_, _<_, zero-le}
-use native.Mathlib.Nat.{le-trans, le-of-eq, lt-of-lt-of-le, eq-or-lt-of-le, eq-zero-or-pos, mul-assoc, mul-pos, mul-le-mul-left, mul-le-mul-right, mul-lt-mul-of-pos-right, le-of-mul-le-mul-right, not-le-of-lt, pow-suc, zero-mul, zero-add}
+use native.Mathlib.Nat.{le-trans, le-of-eq, lt-of-lt-of-le, eq-or-lt-of-le, eq-zero-or-pos, mul-assoc, mul-pos, mul-le-mul-left, mul-le-mul-right, mul-lt-mul-of-pos-right, le-of-mul-le-mul-right, lt-of-mul-lt-mul-right, le-antisymm, not-le-of-lt, pow-suc, zero-mul, zero-add}
 use native.Mathlib.Omega.{arith}
 use lib.Pow.{pow-add, pow-pos, pow-mono}
 use lib.Count.{leadingZeros, leading-top}
 use lib.Dec.{eqb}
 use borrow.Author.Tests.{eq-eqb, ne-eqb}
 use lib.Ieee.{binary32, ofBits}
-use Rattle.units.proofs.Naturals.{le-or-lt}
+use Rattle.units.proofs.Naturals.{le-or-lt, pow-split}
 use Rattle.units.proofs.Round.{step}
 use Rattle.units.proofs.Bits.{Is, signBit, put, put-positive}
 use Rattle.fixed.specs.Rounded.{Normal, digitsOf, nearestBits}
@@ -54,6 +54,59 @@ many-zeros n z k p l = elim (le-or-lt 64 (k + z)) [
   | inl h ↦ h
   | inr h ↦ absurd (not-le-of-lt (lt-of-lt-of-le (mul-lt-mul-of-pos-right l (pow-pos z)) (le-trans (le-of-eq (sym (pow-add 2 k z))) (pow-mono {i = k + z} {j = 63} (omega arith)))) (p .low))
 ]
+
+-- a number of more than 32 digits has the leading zeros of its upper word
+pub upper-zeros : (n : ℕ) → 0 < n / 4294967296 → n < 2 ^ 64 → (leadingZeros 32 (n / 4294967296) ≤ 31) × (leadingZeros 32 (n / 4294967296) ≡ leadingZeros 64 n)
+upper-zeros n pos h =
+    let (s, l, u) = leading-shift 31 (n / 4294967296) pos (omega arith) in
+    let p = upper (leadingZeros 32 (n / 4294967296)) s l u in
+    let q = placed n (omega arith) h in
+    (s, le-antisymm (few-zeros n _ _ p (q .low)) (few-zeros n _ _ q (p .low)))
+  where
+    raised : (k m U : ℕ) → k * 4294967296 ≤ m → 2 ^ 31 ≤ k * U → 2 ^ 63 ≤ m * U
+    raised k m U g l = le-trans (multiplied (k * U) l) (le-trans (le-of-eq (turned k U)) (mul-le-mul-right U g))
+      where
+        multiplied : (a : ℕ) → 2 ^ 31 ≤ a → 2 ^ 63 ≤ a * 4294967296
+        multiplied a l = omega arith
+
+        turned : (k U : ℕ) → k * U * 4294967296 ≡ k * 4294967296 * U
+        turned k U = omega arith
+
+    topped : (k m U W : ℕ) → m < (k + 1) * 4294967296 → 0 < U → W * U ≡ 2 ^ 32 → k * U < 2 ^ 32 → m * U < 2 ^ 64
+    topped k m U W g pu w l =
+        let c : k + 1 ≤ W = next (lt-of-mul-lt-mul-right U (lt-of-lt-of-le l (le-of-eq (sym w)))) in
+        lt-of-lt-of-le (mul-lt-mul-of-pos-right g pu) (le-trans (le-of-eq (turned (k + 1) U)) (le-trans (mul-le-mul-right 4294967296 (mul-le-mul-right U c)) (le-of-eq (ap (λ (i : ℕ). i * 4294967296) w))))
+      where
+        next : k < W → k + 1 ≤ W
+        next h = omega arith
+
+        turned : (k U : ℕ) → k * 4294967296 * U ≡ k * U * 4294967296
+        turned k U = omega arith
+
+    upper : (z : ℕ) → z ≤ 31 → 2 ^ 31 ≤ n / 4294967296 * 2 ^ z → n / 4294967296 * 2 ^ z < 2 ^ 32 → Placed n z
+    upper z s l u =
+        record {
+          small = le-trans s (omega arith);
+          low = raised (n / 4294967296) n (2 ^ z) (omega arith) l;
+          high = topped (n / 4294967296) n (2 ^ z) (2 ^ (32 - z)) (omega arith) (pow-pos z) (sym (pow-split z 32 (le-trans s (omega arith)))) u;
+        }
+
+-- one of at most 32 digits has 32 more than its word
+pub lower-zeros : (n : ℕ) → 0 < n → n < 4294967296 → (leadingZeros 32 n ≤ 31) × (n * 2 ^ leadingZeros 32 n < 4294967296) × (32 + leadingZeros 32 n ≡ leadingZeros 64 n)
+lower-zeros n pos h =
+    let (s, l, u) = leading-shift 31 n pos h in
+    let p = lower (leadingZeros 32 n) s l u in
+    let q = placed n pos (lt-of-lt-of-le h (omega arith)) in
+    (s, u, le-antisymm (few-zeros n _ _ p (q .low)) (few-zeros n _ _ q (p .low)))
+  where
+    whole : (z : ℕ) → n * 2 ^ (32 + z) ≡ n * 2 ^ z * 4294967296
+    whole z = ap (λ (i : ℕ). n * i) (pow-add 2 32 z) ∙ turned n (2 ^ z)
+      where
+        turned : (n U : ℕ) → n * (4294967296 * U) ≡ n * U * 4294967296
+        turned n U = omega arith
+
+    lower : (z : ℕ) → z ≤ 31 → 2 ^ 31 ≤ n * 2 ^ z → n * 2 ^ z < 4294967296 → Placed n (32 + z)
+    lower z s l u = record { small = omega arith; low = rw (whole z) (omega (arith, l)); high = rw (whole z) (omega (arith, u)) }
 
 -- ---- the digits of a number n of 64 - z digits
 module _ (n z : ℕ) (p : Placed n z) where

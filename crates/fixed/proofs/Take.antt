@@ -2,14 +2,15 @@
 -- Assumes nothing.
 use mathlib.Core.Path.{_≡_, sym, ap, _∙_, subst, subst₂}
 use mathlib.Core.Logic.{_⊎_, inl, inr}
-use mathlib.Core.Bool.{Bool, not}
+use mathlib.Core.Bool.{Bool, true, false, not, true≢false}
 use Prim.Native.Nat.{ℕ, suc, _+_, _-_, _*_, _/_, _%_, _^_, _≤_, _<_}
 use native.Mathlib.Nat.{le-trans, le-of-eq, zero-add, lt-of-le-of-lt, lt-of-lt-of-le, not-le-of-lt, mul-assoc, mul-comm, mul-div-cancel, le-of-mul-le-mul-right, lt-of-mul-lt-mul-right, mod-eq-of-lt, mul-le-mul-right, mul-lt-mul-of-pos-right}
 use native.Mathlib.Omega.{arith}
 use lib.Dec.{T}
 use lib.Pow.{pow-add, pow-pos, pow-mono}
 use lib.Count.{leadingZeros, leading-top}
-use lib.Ieee.{Float, nan, inf, fin, binary32, isNan, toBits, size}
+use lib.Ieee.{Float, nan, inf, fin, binary32, isNan, ne, toBits, size}
+use lib.Ieee.Compare.{differs-from-itself, nan-differs}
 use lib.Ieee.Digits.{size-lt, size-le}
 use Rattle.units.specs.Units.{mag, negative, Number}
 use Rattle.units.proofs.Naturals.{le-or-lt, pow-back-lt}
@@ -23,6 +24,16 @@ unfolding isNan
 no-nan nan h = absurd (h .is-finite)
 no-nan (inf s) h = absurd (h .is-finite)
 no-nan (fin s m e) h = tt
+
+-- what equals itself is no NaN, and what differs from itself no number
+pub equal-to-itself : (x : Float) → ne x x ≡ false → T (not (isNan x))
+unfolding isNan
+equal-to-itself nan e = true≢false (sym nan-differs ∙ e)
+equal-to-itself (inf s) e = tt
+equal-to-itself (fin s m k) e = tt
+
+pub no-number : (x : Float) → ne x x ≡ true → ¬ Number x
+no-number x e h = subst Number (differs-from-itself x (subst T (sym e) tt)) h .is-finite
 
 -- ---- below 2 ^ 23: the digits are shifted up to the 24th place
 module _ (b : ℕ) (above : 0 < b) (low : b < 2 ^ 23) where

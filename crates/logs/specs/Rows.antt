@@ -1,5 +1,6 @@
 -- The polynomials of the logarithm, a row of coefficients for each sixteenth of an octave: what src/rows.rt holds. A reader of the promises need not read this. Definitions only.
-use Prim.Native.Nat.{ℕ}
+use mathlib.Core.Path.{_≡_}
+use Prim.Native.Nat.{ℕ, _-_, _^_, _<_}
 use mathlib.Core.List.{List, [], _∷_}
 use lib.ListN.{getD}
 
@@ -27,3 +28,11 @@ rows =
 -- the row of the sixteenth i
 abbrev pub row : ℕ → List ℕ
 row i = getD rows i []
+
+-- a to e are the row of the sixteenth i, and leave room in a word for what the next power adds
+pub record IsRow (i a b c d e : ℕ) : Type 0 where
+  pub same : (a ∷ b ∷ c ∷ d ∷ e ∷ []) ≡ row i
+  pub room-a : a < 2 ^ 32 - 2 ^ 28
+  pub room-b : b < 2 ^ 32 - 2 ^ 28
+  pub room-c : c < 2 ^ 32 - 2 ^ 28
+  pub room-d : d < 2 ^ 32 - 2 ^ 28

@@ -3,7 +3,7 @@
 mod rows;
 
 ghost use mathlib.Core.Path.{_≡_};
-ghost use Prim.Native.Nat.{_+_, _*_, _/_, _^_, _<_, _≤_};
+ghost use Prim.Native.Nat.{_+_, _-_, _*_, _/_, _^_, _<_, _≤_};
 ghost use Rattle.units.specs.Answers.{Ends, floatBits};
 ghost use Rattle.units.specs.Tests.{Tells};
 ghost use Rattle.logs.specs.Log2.{Accepts, Log2};
@@ -13,33 +13,33 @@ ghost use Rattle.logs.specs.Fixed.{FixedLog2};
 // log2 1 in fixed point: 127 in steps of 2 ^ -54.
 const AT_ONE: u64 = 0x1fc0_0000_0000_0000;
 
-// One step of Horner's rule, the product cut off to a whole number.
-fn step(c: u32, p: u64, v: u64) -> u64
-    requires { ⌜ (p ≤ 2 ^ 33) × (v ≤ 2 ^ 28) ⌝ }
-    ensures { λ r. ⌜ (r ≡ c + p * v / 4294967296) × (r ≤ 2 ^ 33) ⌝ }
+// One step of Horner's rule, the product of two words cut off to its upper half: below v, and so the sum is a word.
+fn step(c: u32, p: u32, v: u32) -> u32
+    requires { ⌜ (c < 2 ^ 32 - 2 ^ 28) × (v ≤ 2 ^ 28) ⌝ }
+    ensures { λ r. ⌜ r ≡ c + p * v / 4294967296 ⌝ }
 {
-    c as u64 + p * v / 4294967296
+    c + ((p as u64) * (v as u64) / 4294967296) as u32
 }
 
 // The logarithm over the distance from the nearer power of two: the row of the sixteenth, at the distance from its upper end.
-fn slope(b: u32) -> u64
+fn slope(b: u32) -> u32
     ensures { λ r. ⌜ r ≡ slope b ⌝ }
 {
     let t = rows::of_sixteenth(b / 524288 % 16);
-    let v = ((524288 - b % 524288) * 512) as u64;
-    step(t.0, step(t.1, step(t.2, step(t.3, t.4 as u64, v), v), v), v)
+    let v = (524288 - b % 524288) * 512;
+    step(t.0, step(t.1, step(t.2, step(t.3, t.4, v), v), v), v)
 }
 
-// log2 x + 127 in steps of 2 ^ -54: the exponent of the nearer power of two, and slope times distance. With the pattern b for x the distance is
-// b - k * 2 ^ 23, of either sign, so that both sides of the cut are one formula.
+// log2 x + 127 in steps of 2 ^ -54: the exponent of the nearer power of two, and slope times distance. With the pattern b for x, and k for that
+// power, the distance is b - k, of either sign, so that both sides of the cut are one formula.
 pub fn fixed_log2(x: f32) -> u64
     requires { ⌜ Accepts x ⌝ }
     ensures { λ w. ⌜ FixedLog2 x w ⌝ }
 {
     let b = f32::to_bits(x);
-    let p = slope(b);
-    let k = ((b + 4718592) / 8388608) as u64;
-    k * 18014398509481984 + b as u64 * p - k * 8388608 * p
+    let p = slope(b) as u64;
+    let k = (b + 4718592) / 8388608 * 8388608;
+    (k / 2) as u64 * 4294967296 + b as u64 * p - k as u64 * p
 }
 
 // How far a logarithm in fixed point is from log2 1.
@@ -68,7 +68,10 @@ fn rounded(w: u64) -> u32
 fn in_range(x: f32) -> bool
     ensures { λ r. ⌜ Tells (Accepts x) r ⌝ }
 {
-    let b = fixed::bits_of(x);
+    if x != x {
+        return false;
+    }
+    let b = f32::to_bits(x);
     if b < 0x0080_0000 {
         return false;
     }

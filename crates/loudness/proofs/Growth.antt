@@ -11,8 +11,7 @@ use Rattle.units.proofs.Naturals.{le-or-lt}
 use Rattle.logs.specs.Fixed.{fixedOf}
 use Rattle.loudness.specs.Map.{NearMap}
 use Rattle.loudness.specs.Value.{riseOf, stepsOf, stepOf}
-use Rattle.loudness.specs.Fitted.{Segment, Fits}
-use Rattle.loudness.specs.declared.Fitted.{Fitted}
+use Rattle.loudness.specs.Segment.{Segment}
 use Rattle.loudness.proofs.Steps.{Rounded, Allows, not-below, not-above}
 use Rattle.loudness.proofs.Words.{steps-rounded, steps-mono}
 use Rattle.loudness.proofs.Known.{parts, shift, width, Sound, low-sound, high-sound, encloses, rises, encloses-sum, rise-few, rise-octave}
@@ -30,10 +29,6 @@ module _ (b m : Float) (t c : ℕ) (a : Float) where
   pub step-between : P b < P a → P a < P m → stepOf b m t c a ≡ t + stepsOf (c - t) (riseOf b a) (riseOf b m)
   unfolding stepOf
   step-between h k = rw (lt-leb (P a) (P b) h, lt-leb (P m) (P a) k)
-
--- of a fitted segment they are the segment's
-pub same-step : {b m : Float} {t c : ℕ} (f : Fitted) (a : Float) → Fits b m t c f → stepOf (f .b) (f .m) (f .t) (f .c) a ≡ stepOf b m t c a
-same-step f a h = rw (h .same-b, h .same-m, h .same-t, h .same-c)
 
 module _ (b m : Float) (t c : ℕ) (sg : Segment b m t c) where
   abbrev k : ℕ

@@ -13,7 +13,7 @@ use Rattle.units.proofs.Answers.{written, untouched}
 use Rattle.units.proofs.Naturals.{le-or-lt}
 use Rattle.loudness.specs.Map.{Channel, Envelope, mapErrorNum, mapErrorDen, Loudness}
 use Rattle.loudness.specs.Value.{riseOf, stepOf}
-use Rattle.loudness.specs.Fitted.{Segment}
+use Rattle.loudness.specs.Segment.{Segment}
 use Rattle.loudness.proofs.Steps.{Allows}
 use Rattle.loudness.proofs.Known.{parts, width}
 use Rattle.loudness.proofs.Growth.{step-quiet, step-loud, span-octave, inside, never-falls, within}

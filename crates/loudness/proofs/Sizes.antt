@@ -15,7 +15,7 @@ use Rattle.units.proofs.Naturals.{le-or-lt}
 use Rattle.units.proofs.Patterns.{Shape, packed, packed-le, packed-lt, packed-of, finite-below, within}
 use Rattle.units.proofs.Between.{sign-clear, sign-set}
 use Rattle.loudness.specs.Map.{Levels, Envelope}
-use Rattle.loudness.specs.Fitted.{sizeBits}
+use Rattle.loudness.specs.Segment.{sizeBits}
 use Rattle.loudness.proofs.Known.{Sound, low-sound, high-sound, above-zero, positive}
 
 -- 2 ^ -24 and 1

@@ -1,4 +1,4 @@
 pub mod Value
 pub mod Map
 pub mod Knee
-pub mod Fitted
+pub mod Segment

@@ -12,9 +12,9 @@ fn bent_step(top: u32, b: f32, k: f32, m: f32, t: u32, s: u32, c: u32, a: f32) -
     ensures { λ r. ⌜ r ≡ kneeOf b k m t s c a ⌝ }
 {
     if super::size_bits(a) <= f32::to_bits(k) {
-        return super::step(super::fit(b, k, t, s), a);
+        return super::segment_step(b, k, t, s, a);
     }
-    super::step(super::fit(k, m, s, c), a)
+    super::segment_step(k, m, s, c, a)
 }
 
 // The step of an envelope value in the channel that is straight from b to k with the steps t to s, and from k to m with the steps s to c;
@@ -32,12 +32,9 @@ pub fn loudness_knee(
 ) -> u32
     ensures { λ code. ⌜ Ends itself (LoudnessKnee top b k m t s c a) code (now (out .entry)) (now (out .exit)) ⌝ }
 {
-    let lower = super::is_channel(top, b, k, t, s);
-    let upper = super::is_channel(top, k, m, s, c);
-    let envelope = super::is_envelope(a);
-    if lower {
-        if upper {
-            if envelope {
+    if super::is_channel(top, b, k, t, s) {
+        if super::is_channel(top, k, m, s, c) {
+            if super::is_envelope(a) {
                 *out = bent_step(top, b, k, m, t, s, c, a);
                 return 0;
             }

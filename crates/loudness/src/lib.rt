@@ -4,30 +4,28 @@
 pub mod knee;
 
 ghost use mathlib.Core.Path.{_≡_};
+ghost use mathlib.Core.Bool.{not};
+ghost use Prim.Native.Nat.{_-_};
+ghost use lib.Dec.{T};
+ghost use lib.Ieee.{isNan};
 ghost use Rattle.units.specs.Answers.{Ends, itself};
 ghost use Rattle.units.specs.Tests.{Tells};
 ghost use Rattle.loudness.specs.Map.{Levels, Channel, Envelope, Loudness};
-ghost use Rattle.loudness.specs.Value.{wordOf, nearestStep, stepOf};
-ghost use Rattle.loudness.specs.Fitted.{Fills, Quotient, sizeBits, Segment, Holds, Fits};
-
-// A channel that was fitted: its levels and steps, the logarithm of b, and the rise to m: its first 32 digits, and the places that it is
-// shifted by to have them.
-pub struct Fitted {
-    pub b: f32,
-    pub m: f32,
-    pub t: u32,
-    pub c: u32,
-    pub low: u64,
-    pub places: u32,
-    pub span: u32,
-}
+ghost use Rattle.loudness.specs.Value.{riseOf, nearestStep, stepsOf, stepOf};
+ghost use Rattle.loudness.specs.Segment.{Segment, Inside, Quotient, sizeBits};
 
 // Whether 2 ^ -24 <= b and 2 b <= m <= 1: a pattern with one more in its exponent is that of twice the size.
 fn in_order(b: f32, m: f32) -> bool
     ensures { λ r. ⌜ Tells (Levels b m) r ⌝ }
 {
-    let l = fixed::bits_of(b);
-    let h = fixed::bits_of(m);
+    if b != b {
+        return false;
+    }
+    if m != m {
+        return false;
+    }
+    let l = f32::to_bits(b);
+    let h = f32::to_bits(m);
     if l < 0x3380_0000 {
         return false;
     }
@@ -56,35 +54,6 @@ pub fn is_channel(top: u32, b: f32, m: f32, t: u32, c: u32) -> bool
     false
 }
 
-// The upper half of a rise that is shifted up by s places, out of its two halves.
-fn word(n: u64, s: u32) -> u32
-    requires { ⌜ Fills n s ⌝ }
-    ensures { λ r. ⌜ r ≡ wordOf s n ⌝ }
-{
-    let high = (n / 4294967296) as u32;
-    let low = (n % 4294967296) as u32;
-    (high << s) + (low >> (32 - s))
-}
-
-// A channel fitted once: the two logarithms that its levels take.
-pub fn fit(b: f32, m: f32, t: u32, c: u32) -> Fitted
-    requires { ⌜ Segment b m t c ⌝ }
-    ensures { λ f. ⌜ Fits b m t c f ⌝ }
-{
-    let low = logs::fixed_log2(b);
-    let d = logs::fixed_log2(m) - low;
-    let places = u32::leading_zeros((d / 4294967296) as u32);
-    Fitted {
-        b,
-        m,
-        t,
-        c,
-        low,
-        places,
-        span: word(d, places),
-    }
-}
-
 // k n / h to the nearest whole number, at most 1,023: one division of 32 digits, at most 1 too small.
 fn nearest_step(k: u32, n: u32, h: u32) -> u32
     requires { ⌜ Quotient k n h ⌝ }
@@ -101,9 +70,10 @@ fn nearest_step(k: u32, n: u32, h: u32) -> u32
 
 // The pattern of a, with 0 for -0.
 fn size_bits(a: f32) -> u32
+    requires { ⌜ T (not (isNan a)) ⌝ }
     ensures { λ r. ⌜ r ≡ sizeBits a ⌝ }
 {
-    let p = fixed::bits_of(a);
+    let p = f32::to_bits(a);
     if p == 0x8000_0000 {
         return 0;
     }
@@ -114,21 +84,29 @@ fn size_bits(a: f32) -> u32
 fn is_envelope(a: f32) -> bool
     ensures { λ r. ⌜ Tells (Envelope a) r ⌝ }
 {
+    if a != a {
+        return false;
+    }
     size_bits(a) <= 0x3f80_0000
 }
 
-// The step of an envelope value in a fitted channel.
-pub fn step(f: Fitted, a: f32) -> u32
-    requires { ⌜ Holds f × Envelope a ⌝ }
-    ensures { λ r. ⌜ r ≡ stepOf (f .b) (f .m) (f .t) (f .c) a ⌝ }
+// The steps from b to an envelope value between b and m: one logarithm for each, and their rises as words of 32 digits.
+fn steps_between(b: f32, m: f32, t: u32, c: u32, a: f32) -> u32
+    requires { ⌜ Inside b m t c a ⌝ }
+    ensures { λ r. ⌜ r ≡ stepsOf (c - t) (riseOf b a) (riseOf b m) ⌝ }
 {
-    let b = f.b;
-    let m = f.m;
-    let t = f.t;
-    let c = f.c;
-    let low = f.low;
-    let places = f.places;
-    let span = f.span;
+    let low = logs::fixed_log2(b);
+    let d = logs::fixed_log2(m) - low;
+    let n = logs::fixed_log2(a) - low;
+    let s = u32::leading_zeros((d / 4294967296) as u32);
+    nearest_step(c - t, fixed::upper_word(n, s), fixed::upper_word(d, s))
+}
+
+// The step of an envelope value in a segment.
+pub fn segment_step(b: f32, m: f32, t: u32, c: u32, a: f32) -> u32
+    requires { ⌜ Segment b m t c × Envelope a ⌝ }
+    ensures { λ r. ⌜ r ≡ stepOf b m t c a ⌝ }
+{
     let p = size_bits(a);
     if p <= f32::to_bits(b) {
         return t;
@@ -136,7 +114,7 @@ pub fn step(f: Fitted, a: f32) -> u32
     if f32::to_bits(m) <= p {
         return c;
     }
-    t + nearest_step(c - t, word(logs::fixed_log2(a) - low, places), span)
+    t + steps_between(b, m, t, c, a)
 }
 
 // The step of an envelope value in the channel b, m, t, c of a stimulator with the steps 0 to top; code 4 where they make no channel, code 1
@@ -144,11 +122,9 @@ pub fn step(f: Fitted, a: f32) -> u32
 pub fn loudness_top(top: u32, b: f32, m: f32, t: u32, c: u32, a: f32, out: &mut u32) -> u32
     ensures { λ code. ⌜ Ends itself (Loudness top b m t c a) code (now (out .entry)) (now (out .exit)) ⌝ }
 {
-    let channel = is_channel(top, b, m, t, c);
-    let envelope = is_envelope(a);
-    if channel {
-        if envelope {
-            *out = step(fit(b, m, t, c), a);
+    if is_channel(top, b, m, t, c) {
+        if is_envelope(a) {
+            *out = segment_step(b, m, t, c, a);
             return 0;
         }
         return 1;

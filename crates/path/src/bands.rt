@@ -84,13 +84,13 @@ fn current(y: &[u64], bands: &[u32], i: usize) -> u32
 {
     let at = 6 * i;
     let a = envelope(sum(y, bands[at], bands[at + 1]));
-    let f = loudness::fit(
+    loudness::segment_step(
         f32::from_bits(bands[at + 2]),
         f32::from_bits(bands[at + 3]),
         bands[at + 4],
         bands[at + 5],
-    );
-    loudness::step(f, a)
+        a,
+    )
 }
 
 // All of them.

@@ -1,13 +1,18 @@
-// 2 to the power x: whole numbers inside, one pattern put together at the end.
+// 2 to the power x, and e to it: whole numbers inside, one pattern put together at the end.
+
+pub mod fixed_point;
+pub mod natural;
 
 ghost use mathlib.Core.Path.{_≡_};
+ghost use mathlib.Core.Bool.{cond};
 ghost use Prim.Native.Nat.{_+_, _*_, _/_, _%_, _<_, _≤_, _^_};
+ghost use lib.Dec.{ltb};
+ghost use lib.Ieee.{binary32, toBits};
 ghost use Rattle.powers.specs.Raised.{raised};
 ghost use Rattle.units.specs.Answers.{Ends, floatBits};
 ghost use Rattle.units.specs.Tests.{Tells};
+ghost use Rattle.powers.specs.Value.{stepsOf, cutOf, roundedPower};
 ghost use Rattle.powers.specs.Exp2.{Accepts, Exp2};
-ghost use Rattle.powers.specs.Value.{Argument, stepsOf, cutOf, roundedPower};
-ghost use Rattle.powers.specs.Fixed.{FixedExp2};
 
 // One step of Horner's rule, the product of two 32-bit numbers cut off to its upper half.
 fn step(c: u32, p: u32, f: u32) -> u32
@@ -31,17 +36,16 @@ fn raise(f: u32) -> u32
     (((f as u64) * (o1 as u64) + (z as u64) * (e2 as u64)) / 4294967296) as u32
 }
 
-// The size with the pattern a as a whole number of 2^-32. From 2^-9 on that is exact, and one product of 32-bit words, where a chip of 32 bits has
-// no shift of 64; below it the digits are shifted to their place and cut off. Below 2^-33 nothing is left of them, nor of a subnormal.
+// The size with the pattern a as a whole number of 2^-32. From 2^-8 on that is exact; below it the digits are shifted to their place and cut off.
+// Below 2^-33 nothing is left of them, nor of a subnormal.
 fn steps(a: u32) -> u64
     requires { ⌜ a < 134 * 8388608 ⌝ }
     ensures { λ r. ⌜ (r ≡ stepsOf a) × (r ≤ 2 ^ 39) ⌝ }
 {
     let m = a % 8388608 + 8388608;
     let e = a / 8388608;
-    if 118 <= e {
-        let unit: u32 = 1 << (e - 118);
-        return (m as u64) * (unit as u64);
+    if 119 <= e {
+        return fixed::shifted(m, e - 118);
     }
     if 94 <= e {
         return (m >> (118 - e)) as u64;
@@ -63,22 +67,25 @@ fn cut_off(x: f32) -> u64
     }
 }
 
-// Digits and an exponent: r * 2^(e - 158).
-pub struct Digits {
-    pub r: u64,
-    pub e: u32,
+// One of two, by the sign of the pattern b.
+fn of_sign(b: u32, plus: u32, minus: u32) -> u32
+    ensures { λ r. ⌜ r ≡ cond (ltb b 2147483648) plus minus ⌝ }
+{
+    if b < 2147483648 { plus } else { minus }
 }
 
-// 2 to the power x in fixed point, x from -126 to 127: the power of the fraction of x + 126, and its whole part.
-pub fn fixed_exp2(x: f32) -> Digits
-    requires { ⌜ Accepts x ⌝ }
-    ensures { λ t. ⌜ FixedExp2 x (t .r) (t .e) ⌝ }
+// The same of an x whose digits all stay, by one product of 32-bit words: of a negative x with 2^32 less the power of two, and the digits taken from
+// the whole part. What runs over 64 bits is 2^64.
+fn whole_cut(x: f32) -> u64
+    requires { ⌜ Accepts x × (118 * 8388608 ≤ toBits binary32 x % 2147483648) ⌝ }
+    ensures { λ r. ⌜ r ≡ cutOf x ⌝ }
 {
-    let c = cut_off(x);
-    Digits {
-        r: 0x1_0000_0000 + raise((c % 4294967296) as u32) as u64,
-        e: (c / 4294967296) as u32,
-    }
+    let b = f32::to_bits(x);
+    let m = b % 8388608 + 8388608;
+    let u: u32 = 1 << (b % 2147483648 / 8388608 - 118);
+    let unit = of_sign(b, u, 0xffff_ffff - u + 1);
+    let part = of_sign(b, 126, std::num::wrapping_sub_u32(126, m));
+    std::num::wrapping_add_u64((part as u64) * 4294967296, (m as u64) * (unit as u64))
 }
 
 // From -126 to 127: of patterns up to 127's, and from -0's to that of -126.
@@ -92,23 +99,6 @@ fn in_range(x: f32) -> bool
     b <= 0xc2fc_0000
 }
 
-// What no accepted x is cut off to.
-const REFUSED: u64 = 0x1_0000_0000_0000;
-
-// What x is cut off to, or REFUSED. From 2^-9 to 124 in size, where nearly all arguments are, one test of the pattern says that x is accepted.
-fn argument(x: f32) -> u64
-    ensures { λ c. ⌜ Argument x c ⌝ }
-{
-    let a = fixed::bits_of(x) % 2147483648;
-    if std::num::wrapping_sub_u32(a, 0x3b00_0000) <= 0x07f8_0000 {
-        return cut_off(x);
-    }
-    if in_range(x) {
-        return cut_off(x);
-    }
-    REFUSED
-}
-
 // The digits of a power rounded, and put together with the whole part: a carry of them into the exponent is the addition.
 fn rounded(c: u64) -> u32
     requires { ⌜ c ≤ 253 * 2 ^ 32 ⌝ }
@@ -118,13 +108,20 @@ fn rounded(c: u64) -> u32
     ((c / 4294967296) as u32 + 1) * 8388608 + (q / 256 + 1) / 2
 }
 
-// 2 to the power x; code 1 and nothing written where x is a NaN, below -126 or above 127.
+// 2 to the power x; code 1 and nothing written where x is a NaN, below -126 or above 127. From 2^-9 to 124 in size, where nearly all arguments
+// are, one test of the pattern says that x is accepted and that no digit of it is cut off.
 pub fn exp2(x: f32, out: &mut u32) -> u32
     ensures { λ code. ⌜ Ends floatBits (Exp2 x) code (now (out .entry)) (now (out .exit)) ⌝ }
 {
-    let c = argument(x);
-    if c < REFUSED {
-        *out = rounded(c);
+    if x != x {
+        return 1;
+    }
+    if std::num::wrapping_sub_u32(f32::to_bits(x) % 2147483648, 0x3b00_0000) <= 0x07f8_0000 {
+        *out = rounded(whole_cut(x));
+        return 0;
+    }
+    if in_range(x) {
+        *out = rounded(cut_off(x));
         return 0;
     }
     1

@@ -1,4 +1,5 @@
 -- What is counted over an order of adding: its factors, exact sums of its products, its roundings. Definitions only, for the proofs alone.
+use mathlib.Core.Bool.{Bool, _&&_, cond}
 use Prim.Native.Nat.{ℕ, zero, suc, _+_, max}
 use lib.Ieee.{Float}
 use Rattle.units.specs.Units.{Number}
@@ -19,6 +20,10 @@ added f (plus s t) = added f s + added f t
 -- what each product counts for where products are counted
 abbrev pub one : Float → Float → ℕ
 one x y = 1
+
+-- and where those are counted whose factors do not both pass a test
+abbrev pub failing : (Float → Bool) → Float → Float → ℕ
+failing p x y = cond (p x && p y) 0 1
 
 -- roundings of a sum by those of its parts: one more than the larger; but a part without products is zero, and adding zero is exact
 unfoldable pub joined : ℕ → ℕ → ℕ

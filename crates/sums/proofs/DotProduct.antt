@@ -1,42 +1,56 @@
 -- The dot product's promise, for each way in which the program returns. Assumes nothing.
 use mathlib.Core.Path.{_≡_, refl, ap, _∙_}
 use mathlib.Core.List.{List, [], _∷_}
-use Prim.Native.Nat.{ℕ}
+use Prim.Native.Nat.{ℕ, _+_, _≤_}
+use native.Mathlib.Nat.{le-trans, le-of-eq}
 use native.Mathlib.Omega.{arith}
 use lib.Dec.{T}
 use lib.ListN.{length}
-use lib.Ieee.{Float, binary32, ofBits}
+use lib.Ieee.{Float}
 use lib.Ieee.Scale.{finite}
 use Rattle.units.specs.Answers.{Ends, floatBits}
 use Rattle.units.proofs.Answers.{written, untouched}
-use Rattle.sums.specs.Sum.{total, Intermediates, above, below, size, NearSum}
-use Rattle.sums.specs.Dot.{Lengths, Elements, Accepts, Dot, inTurn, dotSum, dotOf, sumOver}
-use Rattle.sums.proofs.Count.{added, one}
-use Rattle.sums.proofs.Trees.{intermediates, last-finite, total-number, tree-near, at-most-products}
-use Rattle.sums.proofs.InTurn.{Fits, added-dot, as-many, finite-dot, factors-dot}
+use Rattle.units.proofs.Ranges.{zero-units}
+use Rattle.sums.specs.Sum.{Intermediates, above, below, size, apart, NearSum}
+use Rattle.sums.specs.Dot.{Lengths, Elements, Accepts, Dot, products, dotSum, dotOf, levels, mostRoundings, sumOver}
+use Rattle.sums.proofs.Count.{Factors, added, one, roundings}
+use Rattle.sums.proofs.Trees.{intermediates, last-finite, total-number, finite-factors, factors, tree-near, near-more}
+use Rattle.sums.proofs.Rows.{added-pairs, added-products, rounded-pairs, rounded-products, steady, length-products}
+use Rattle.sums.proofs.Levels.{enough, least, no-more}
+use Rattle.sums.proofs.Lists.{Fits, as-many, finite-elements, number-elements}
+use Rattle.sums.proofs.Pieces.{dot-empty}
 
--- the order has one product for each element
-products : (a b : List Float) → Lengths a b → added one (dotSum a b) ≡ length a
-products a b l = added-dot one a b ∙ as-many a b (l .same)
+module _ (a b : List Float) (l : Lengths a b) where
+  -- the order has every product once
+  added-dot : (f : Float → Float → ℕ) → added f (dotSum a b) ≡ sumOver f a b
+  added-dot f = added-pairs f 16 (products a b) (le-trans (le-of-eq (length-products a b (l .same))) (l .most)) ∙ added-products f a b
 
--- so the law of sums, at n products, is the bound
-dot-near : (a b : List Float) → Fits a → Fits b → Accepts a b → NearSum (length a) (length a) (dotOf a b) (sumOver above a b) (sumOver below a b) (sumOver size a b)
-dot-near a b p q h =
-    let l = h .lengths .most in
-    let n = products a b (h .lengths) in
-    let r = at-most-products (dotSum a b) in
-    rw (n, added-dot above a b, added-dot below a b, added-dot size a b) at
-    (tree-near (dotSum a b) (length a) (factors-dot a b p q (h .elements)) (h .intermediates) (omega arith) (omega arith))
+  -- none goes through more roundings than there are levels, and its own
+  rounded-dot : roundings (dotSum a b) ≤ mostRoundings (length a)
+  rounded-dot =
+      let n = length-products a b (l .same) in
+      let h = levels (length a) in
+      let e = steady 16 h (products a b) (least (length a) 16 (l .most)) (le-trans (le-of-eq n) (enough (length a))) in
+      let r = rounded-pairs h 1 (products a b) (rounded-products a b) in
+      rw e (omega arith)
 
-dot-empty : (a b : List Float) → length a ≡ 0 → dotOf a b ≡ ofBits binary32 0
-unfolding inTurn total
-dot-empty [] b e = refl
-dot-empty (x ∷ xs) b e = absurd (omega arith)
+  factors-dot : Fits a → Fits b → Elements a b → Factors (dotSum a b)
+  factors-dot p q e = factors (dotSum a b) (added-dot _ ∙ number-elements a b p q e)
+
+  finite-dot : T (finite (dotOf a b)) → Elements a b
+  finite-dot f = finite-elements a b (l .same) (rw (added-dot _) at (finite-factors (dotSum a b) f))
+
+  -- so the law of sums is the bound
+  dot-near : Fits a → Fits b → Elements a b → Intermediates (dotSum a b) → NearSum (mostRoundings (length a)) (length a) (dotOf a b) (sumOver above a b) (sumOver below a b) (sumOver size a b)
+  dot-near p q e i =
+      let h = least (length a) 16 (l .most) in
+      rw (added-dot one ∙ as-many a b (l .same), added-dot above, added-dot below, added-dot size) at
+      (tree-near (dotSum a b) (mostRoundings (length a)) (factors-dot p q e) i rounded-dot (omega arith))
 
 -- ---- success: the result is finite, and with it everything before
 promised : (a b : List Float) → Fits a → Fits b → Lengths a b → T (finite (dotOf a b)) → Dot a b 0 (dotOf a b)
 promised a b p q l f =
-    let h : Accepts a b = record { lengths = l; elements = finite-dot a b (l .same) f; intermediates = intermediates (dotSum a b) f } in
+    let h : Accepts a b = record { lengths = l; elements = finite-dot a b l f; intermediates = intermediates (dotSum a b) f } in
     record {
       bad-length = λ n. absurd (n l);
       out-of-range = λ g n. absurd (n (h .elements));
@@ -44,8 +58,8 @@ promised a b p q l f =
       only-there = λ e. absurd (omega arith);
       success = λ g. refl;
       value = λ g. refl;
-      finite = λ g. total-number (dotSum a b) (factors-dot a b p q (h .elements)) (h .intermediates);
-      near = λ g. dot-near a b p q h;
+      finite = λ g. total-number (dotSum a b) (factors-dot a b l p q (h .elements)) (h .intermediates);
+      near = λ g. dot-near a b l p q (h .elements) (h .intermediates);
       empty = λ g e. dot-empty a b e;
     }
 
@@ -82,3 +96,12 @@ module _ (a b : List Float) {before : ℕ} where
   refused-overflow l e n =
       let not-all : ¬ Intermediates (dotSum a b) = λ i. n (last-finite (dotSum a b) i) in
       refused 3 (λ z. omega arith) (λ h. not-all (h .intermediates)) (λ m. absurd (m l)) (λ g m. absurd (m e)) (λ g h m. refl) (λ c. not-all)
+
+-- ---- document 01's bound, with G = n u / (1 - n u), for every n: n products go through n roundings at most, in whatever order they are added
+pub as-asked : (a b : List Float) (code : ℕ) (r : Float) → Dot a b code r → Accepts a b → NearSum (length a) (length a) r (sumOver above a b) (sumOver below a b) (sumOver size a b)
+unfolding sumOver apart
+as-asked [] b code r d h = rw (d .empty h refl, zero-units .0, zero-units .1) (le-of-eq refl)
+as-asked (x ∷ a) b code r d h = near-more (mostRoundings n) n n r (sumOver above (x ∷ a) b) (sumOver below (x ∷ a) b) (sumOver size (x ∷ a) b) (no-more n (omega arith)) (d .near h)
+  where
+    n : ℕ
+    n = length (x ∷ a)

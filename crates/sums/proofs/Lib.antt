@@ -1,6 +1,11 @@
+pub mod Neutral
 pub mod Count
 pub mod Apart
 pub mod Steps
 pub mod Trees
-pub mod InTurn
+pub mod Rows
+pub mod Levels
+pub mod Lists
+pub mod Pieces
+pub mod Counter
 pub mod DotProduct

@@ -1,19 +1,24 @@
 -- The law of sums of rounded products: whatever the order of adding, the error is at most k u / (1 - k u) of the products' sizes for k roundings, and
--- 2 ^ -149 for each product. A tree of n products goes through at most n roundings. Assumes nothing.
-use mathlib.Core.Path.{_≡_, refl, _∙_}
+-- 2 ^ -149 for each product. Assumes nothing.
+use mathlib.Core.Path.{_≡_, refl, ap, _∙_}
+use mathlib.Core.Logic.{inl, inr}
+use mathlib.Core.Bool.{Bool, true, false, _&&_, cond}
 use Prim.Native.Nat.{ℕ, zero, suc, _+_, _-_, _*_, _^_, _≤_, _<_, max}
-use native.Mathlib.Nat.{mul-le-mul-left}
+use native.Mathlib.Nat.{mul-le-mul-left, mul-le-mul-right}
 use native.Mathlib.Numerals.{add-one}
 use native.Mathlib.Omega.{arith}
 use lib.Dec.{T}
-use lib.Ieee.{Float}
+use lib.Ieee.{Float, binary32, fits}
+use lib.Ieee.Bits.{is-true}
+use lib.Ieee.Fits.{and-i, and-l, and-r}
 use lib.Ieee.Scale.{finite}
 use Rattle.units.specs.Units.{P, N, Number}
 use Rattle.units.proofs.Ranges.{zero-is, zero-units}
 use Rattle.units.proofs.Sums.{add-rounds, add-operands}
-use Rattle.units.proofs.Products.{mul-rounds}
+use Rattle.units.proofs.Naturals.{le-or-lt, sub-mul}
+use Rattle.units.proofs.Products.{mul-rounds, mul-operands}
 use Rattle.sums.specs.Sum.{Sum, nothing, product, plus, total, Intermediates, above, below, size, apart, NearSum}
-use Rattle.sums.proofs.Count.{Factors, added, one, joined, roundings}
+use Rattle.sums.proofs.Count.{Factors, added, one, failing, joined, roundings}
 use Rattle.sums.proofs.Steps.{Off, size-is, off-product, off-more, off-plus, off-nothing, add-zero-left, add-zero-right}
 
 -- ---- an infinity or a NaN never becomes finite again: where the result is finite, every intermediate result is
@@ -39,6 +44,38 @@ total-number nothing f i = zero-is .number
 total-number (product x y) f i = record { fits32 = mul-rounds x y (f .0) (f .1) .fits32; is-finite = i }
 total-number (plus s t) f i =
     record { fits32 = add-rounds (total s) (total t) (total-number s (f .0) (i .0)) (total-number t (f .1) (i .1)) .fits32; is-finite = i .2 }
+
+-- ---- which factors a tree has is counted, so that it is known for any tree with the same products
+pub counted : (b : Bool) → _≡_ {A = ℕ} (cond b 0 1) 0 → T b
+counted true e = tt
+counted false e = absurd (omega arith)
+
+-- a finite result has finite factors only
+pub finite-factors : (t : Sum) → T (finite (total t)) → added (failing finite) t ≡ 0
+unfolding total added
+finite-factors nothing f = refl
+finite-factors (product x y) f = let (g, h) = mul-operands x y f in ap (λ (b : Bool). cond b 0 1) (is-true (finite x && finite y) (and-i (finite x) (finite y) g h))
+finite-factors (plus s t) f =
+    let (g, h) = add-operands (total s) (total t) f in
+    let p = finite-factors s g in
+    let q = finite-factors t h in
+    omega arith
+
+-- a float is a finite f32
+unfoldable pub isNumber : Float → Bool
+isNumber x = fits binary32 x && finite x
+
+pub number-of : (x : Float) → T (isNumber x) → Number x
+unfolding isNumber
+number-of x t = record { fits32 = and-l (fits binary32 x) (finite x) t; is-finite = and-r (fits binary32 x) (finite x) t }
+
+pub factors : (t : Sum) → added (failing isNumber) t ≡ 0 → Factors t
+unfolding added Factors
+factors nothing e = tt
+factors (product x y) e =
+    let b = counted (isNumber x && isNumber y) e in
+    (number-of x (and-l (isNumber x) (isNumber y) b), number-of y (and-r (isNumber x) (isNumber y) b))
+factors (plus s t) e = (factors s (omega arith), factors t (omega arith))
 
 -- ---- a part without products is zero, and adding it is exact
 none-left : (j k : ℕ) → joined j k ≡ 0 → (j ≡ 0) × (k ≡ 0)
@@ -137,16 +174,17 @@ tree-near t k f i l h =
         let m : n * U * 2 ^ 23 ≤ n * U * (2 ^ 24 - k) = mul-le-mul-left (n * U) (omega arith) in
         omega arith
 
--- ---- the roundings of any tree
-joined-sum : (j k m n : ℕ) → j ≤ m → k ≤ n → joined j k ≤ m + n
-unfolding joined
-joined-sum zero k m n h g = omega arith
-joined-sum (suc j) zero m n h g = omega arith
-joined-sum (suc j) (suc k) m n h g = omega arith
-
--- n products, in whatever order they are added, go through at most n roundings: one each and n - 1 additions
-pub at-most-products : (t : Sum) → roundings t ≤ added one t
-unfolding roundings added
-at-most-products nothing = omega arith
-at-most-products (product x y) = omega arith
-at-most-products (plus s t) = joined-sum (roundings s) (roundings t) (added one s) (added one t) (at-most-products s) (at-most-products t)
+-- more roundings, a larger bound
+pub near-more : (j k n : ℕ) (r : Float) (p m s : ℕ) → j ≤ k → NearSum j n r p m s → NearSum k n r p m s
+near-more j k n r p m s l h = more (2 ^ 24) (apart (P r * 2 ^ 149 + m) (N r * 2 ^ 149 + p)) (n * 2 ^ 149) h
+  where
+    more : (w e B : ℕ) → e * (w - j) ≤ j * s + B * (w - j) → e * (w - k) ≤ k * s + B * (w - k)
+    more w e B g = elim (le-or-lt e B) [
+      | inl u ↦ let c = mul-le-mul-right (w - k) u in omega arith
+      | inr u ↦
+          let d = mul-le-mul-right s l in
+          let c : (e - B) * (w - k) ≤ (e - B) * (w - j) = mul-le-mul-left (e - B) (omega arith) in
+          let f = sub-mul e B (w - j) in
+          let i = sub-mul e B (w - k) in
+          omega arith
+    ]

@@ -4,6 +4,7 @@ use mathlib.Core.Path.{sym, subst, ap, _∙_}
 use Prim.Native.Nat.{ℕ}
 use native.Mathlib.Omega.{arith}
 use lib.Dec.{T}
+use Rattle.fixed.proofs.Take.{equal-to-itself, no-number}
 use Rattle.circle.specs.Wave.{waveBits, quarterOn}
 use Rattle.circle.specs.Promise.{Accepts}
 use Rattle.circle.proofs.Range.{in-range, out-of-range}
@@ -12,11 +13,14 @@ use Rattle.circle.proofs.cos.Statement.{statement}
 use Rattle.circle.proofs.cos.Tie as tie
 
 -- the test passed
-taken : (c : tie.Then1) → Accepts (c .before .before .args .x)
-taken c = in-range (c .before .before .args .x) (subst T (sym (c .before .before .good .0 .1)) tt) (omega (arith, rw (c .before .bits-of .ensures) at (c .if1 .taken)))
+taken : (c : tie.Then2) → Accepts (c .before .before .args .x)
+taken c = in-range (c .before .before .args .x) (subst T (sym (c .before .before .good .0 .1)) tt) (omega (arith, c .if2 .taken))
 
-bits-of-requires : tie.Need-bits-of-requires
-bits-of-requires c κs = tt
+returns : tie.Need-returns
+returns c = cos-refusal (c .before .args .x) (λ a. no-number (c .before .args .x) (c .if1 .taken) (a .number))
+
+float-to-bits-size : tie.Need-float-to-bits-size
+float-to-bits-size c = equal-to-itself (c .before .args .x) (c .if1 .left)
 
 radians-requires : tie.Need-radians-requires
 radians-requires c κs = search needs
@@ -24,13 +28,13 @@ radians-requires c κs = search needs
 cosine-requires : tie.Need-cosine-requires
 cosine-requires c κs = search needs
 
-returns : tie.Need-returns
-returns c =
-    cos-success (c .before .before .before .before .args .x) (taken (c .before .before))
-    (rw (c .before .before .before .bits-of .ensures) at (c .cosine .ensures ∙ ap (λ (n : ℕ). waveBits (quarterOn n)) (c .before .radians .ensures)))
-
 returns-2 : tie.Need-returns-2
-returns-2 c = let x = c .before .before .args .x in cos-refusal x (out-of-range x (omega (arith, rw (c .before .bits-of .ensures) at (c .if1 .left))))
+returns-2 c =
+    cos-success (c .before .before .before .before .args .x) (taken (c .before .before))
+    (c .cosine .ensures ∙ ap (λ (n : ℕ). waveBits (quarterOn n)) (c .before .radians .ensures))
+
+returns-3 : tie.Need-returns-3
+returns-3 c = let x = c .before .before .args .x in cos-refusal x (out-of-range x (omega (arith, c .if2 .left)))
 
 pub cos-spec : {M : Type 1} → statement M
-cos-spec = tie.close (tie.spec bits-of-requires radians-requires cosine-requires returns returns-2)
+cos-spec = tie.close (tie.spec returns float-to-bits-size radians-requires cosine-requires returns-2 returns-3)

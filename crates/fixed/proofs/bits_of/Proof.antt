@@ -1,18 +1,12 @@
 -- `fixed::bits_of` gives the pattern: a float that differs from itself is a NaN, and any other has bits to read. Assumes nothing.
 use borrow.Author.Needs.{needs}
-use mathlib.Core.Path.{_≡_, sym, ap, _∙_, subst}
-use mathlib.Core.Bool.{false, not, true≢false}
+use mathlib.Core.Path.{sym, ap, subst}
 use lib.Dec.{T}
-use lib.Ieee.{Float, nan, inf, fin, binary32, toBits, ne, isNan}
-use lib.Ieee.Compare.{differs-from-itself, nan-differs}
+use lib.Ieee.{binary32, toBits}
+use lib.Ieee.Compare.{differs-from-itself}
+use Rattle.fixed.proofs.Take.{equal-to-itself}
 use Rattle.fixed.proofs.bits_of.Statement.{statement}
 use Rattle.fixed.proofs.bits_of.Tie as tie
-
-equal-to-itself : (x : Float) → ne x x ≡ false → T (not (isNan x))
-unfolding isNan
-equal-to-itself nan e = true≢false (sym nan-differs ∙ e)
-equal-to-itself (inf s) e = tt
-equal-to-itself (fin s m k) e = tt
 
 returns : tie.Need-returns
 unfolding toBits

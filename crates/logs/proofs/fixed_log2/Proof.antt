@@ -1,6 +1,6 @@
 -- `logs::fixed_log2` meets its contract: no word overflows, and its value is the value function's. Assumes nothing.
 use borrow.Author.Needs.{needs}
-use mathlib.Core.Path.{refl}
+use mathlib.Core.Path.{_≡_, refl}
 use Prim.Native.Nat.{ℕ, _+_, _*_, _/_, _^_, _≤_, _<_}
 use native.Mathlib.Nat.{le-of-lt, mul-le-mul}
 use native.Mathlib.Omega.{arith}
@@ -34,17 +34,23 @@ first c = product c (toBits binary32 (c .before .args .x)) (omega (arith, patter
 second : (c : tie.After-slope) → (toBits binary32 (c .before .args .x) + 4718592) / 8388608 * 8388608 * c .slope .result ≤ 2 ^ 63
 second c = product c ((toBits binary32 (c .before .args .x) + 4718592) / 8388608 * 8388608) (omega (arith, pattern c))
 
+cast-p : tie.Need-cast-p
+cast-p c = search needs
+
 add-k : tie.Need-add-k
 add-k c = omega (arith, pattern c)
 
-cast-k : tie.Need-cast-k
-cast-k c = omega (arith, pattern c)
+mul-k : tie.Need-mul-k
+mul-k c = omega (arith, pattern c)
+
+cast-result : tie.Need-cast-result
+cast-result c = omega (arith, pattern c)
 
 mul-result : tie.Need-mul-result
 mul-result c = omega (arith, pattern c)
 
-cast-result : tie.Need-cast-result
-cast-result c = omega (arith, pattern c)
+cast-result-2 : tie.Need-cast-result-2
+cast-result-2 c = omega (arith, pattern c)
 
 mul-result-2 : tie.Need-mul-result-2
 mul-result-2 c = omega (arith, first c)
@@ -52,19 +58,23 @@ mul-result-2 c = omega (arith, first c)
 add-result : tie.Need-add-result
 add-result c = omega (arith, pattern c, first c)
 
-mul-result-3 : tie.Need-mul-result-3
-mul-result-3 c = omega (arith, pattern c)
+cast-result-3 : tie.Need-cast-result-3
+cast-result-3 c = omega (arith, pattern c)
 
-mul-result-4 : tie.Need-mul-result-4
-mul-result-4 c = omega (arith, second c)
+mul-result-3 : tie.Need-mul-result-3
+mul-result-3 c = omega (arith, second c)
+
+-- half of the power's pattern, in the upper word, is its exponent in steps
+upper : (n : ℕ) → n * 8388608 / 2 * 4294967296 ≡ n * 18014398509481984
+upper n = omega arith
 
 sub-result : tie.Need-sub-result
 unfolding nearer
-sub-result c = rw (c .slope .ensures) (no-borrow (toBits binary32 (c .before .args .x)))
+sub-result c = rw (c .slope .ensures, upper ((toBits binary32 (c .before .args .x) + 4718592) / 8388608)) (no-borrow (toBits binary32 (c .before .args .x)))
 
 returns : tie.Need-returns
 unfolding nearer fixedBits fixedOf
-returns c = fixed-promised (c .before .args .x) _ (c .before .pre) (rw (c .slope .ensures) refl)
+returns c = fixed-promised (c .before .args .x) _ (c .before .pre) (rw (c .slope .ensures, upper ((toBits binary32 (c .before .args .x) + 4718592) / 8388608)) refl)
 
 pub fixed-log2-spec : {M : Type 1} → statement M
 fixed-log2-spec =
@@ -72,13 +82,15 @@ fixed-log2-spec =
     (tie.spec
     float-to-bits-b
     slope-requires
+    cast-p
     add-k
-    cast-k
-    mul-result
+    mul-k
     cast-result
+    mul-result
+    cast-result-2
     mul-result-2
     add-result
+    cast-result-3
     mul-result-3
-    mul-result-4
     sub-result
     returns)

@@ -9,6 +9,7 @@ use borrow.Author.Tests.{ltb-true, ltb-false}
 use lib.Ieee.{Float, binary32, fits, toBits}
 use Rattle.units.proofs.Patterns.{Shape, finite-below, beyond}
 use Rattle.units.proofs.Between.{sign-clear}
+use Rattle.fixed.proofs.Take.{equal-to-itself, no-number}
 use Rattle.logs.specs.Log2.{Accepts}
 use Rattle.logs.proofs.Reduction.{normal-bits, bits-few}
 use Rattle.logs.proofs.in_range.Statement.{statement}
@@ -25,22 +26,22 @@ accepted x f low high =
     let n = finite-below x f (omega arith) in
     record { number = n; at-least-zero = sign-clear x n (omega arith) .1; normal = beyond 8388607 0 subnormal x n (omega arith) }
 
-bits-of-requires : tie.Need-bits-of-requires
-bits-of-requires c κs = tt
-
 returns : tie.Need-returns
-returns c =
-    let b = c .before .bits-of .ensures in
-    record { if-true = λ e. absurd (true≢false (sym e)); if-false = λ e a. omega (arith, normal-bits (c .before .before .args .x) a) }
+returns c = record { if-true = λ e. absurd (true≢false (sym e)); if-false = λ e a. no-number (c .before .args .x) (c .if1 .taken) (a .number) }
+
+float-to-bits-b : tie.Need-float-to-bits-b
+float-to-bits-b c = equal-to-itself (c .before .args .x) (c .if1 .left)
 
 returns-2 : tie.Need-returns-2
-returns-2 c =
+returns-2 c = record { if-true = λ e. absurd (true≢false (sym e)); if-false = λ e a. omega (arith, normal-bits (c .before .before .args .x) a) }
+
+returns-3 : tie.Need-returns-3
+returns-3 c =
     let x = c .before .before .args .x in
-    let b = c .before .bits-of .ensures in
     record {
-      if-true = λ e. accepted x (subst T (sym (c .before .before .good .0 .1)) tt) (omega arith) (omega (arith, ltb-true));
+      if-true = λ e. accepted x (subst T (sym (c .before .before .good .0 .1)) tt) (c .if2 .left) (omega (arith, ltb-true));
       if-false = λ e a. omega (arith, bits-few x a, ltb-false);
     }
 
 pub in-range-spec : {M : Type 1} → statement M
-in-range-spec = tie.close (tie.spec bits-of-requires returns returns-2)
+in-range-spec = tie.close (tie.spec returns float-to-bits-b returns-2 returns-3)

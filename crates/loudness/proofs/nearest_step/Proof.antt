@@ -6,7 +6,7 @@ use native.Mathlib.Omega.{arith}
 use mathlib.Core.Logic.{inl, inr}
 use Rattle.units.proofs.Naturals.{le-or-lt}
 use Rattle.loudness.specs.Value.{nearestStep}
-use Rattle.loudness.specs.Fitted.{Quotient}
+use Rattle.loudness.specs.Segment.{Quotient}
 use Rattle.loudness.proofs.nearest_step.Statement.{statement}
 use Rattle.loudness.proofs.nearest_step.Tie as tie
 

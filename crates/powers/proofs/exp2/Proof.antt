@@ -1,26 +1,77 @@
 -- `powers::exp2` meets its promise: the argument is taken, or refused. Assumes nothing.
 use borrow.Author.Needs.{needs}
-use mathlib.Core.Path.{ap, _∙_}
+use mathlib.Core.Path.{_≡_, sym, subst, ap, _∙_}
+use mathlib.Core.Logic.{inr}
+use Prim.Native.Nat.{ℕ, _+_, _*_, _%_, _^_, _≤_}
 use native.Mathlib.Nat.{le-trans, le-of-eq}
+use native.Mathlib.Omega.{arith}
+use lib.Dec.{T, lit≤}
+use lib.Ieee.{Float, binary32, fits, toBits}
+use Rattle.units.specs.Units.{mag, P, N}
+use Rattle.units.proofs.Signs.{size-sum}
+use Rattle.units.proofs.Patterns.{Shape, within}
+use Rattle.fixed.proofs.Take.{equal-to-itself, no-number}
+use Rattle.powers.specs.Exp2.{Accepts}
 use Rattle.powers.specs.Value.{roundedPower}
 use Rattle.powers.proofs.Reduction.{cut-top}
 use Rattle.powers.proofs.Promise.{success, refusal}
 use Rattle.powers.proofs.exp2.Statement.{statement}
 use Rattle.powers.proofs.exp2.Tie as tie
 
-argument-requires : tie.Need-argument-requires
-argument-requires c κs = search needs
+-- up to 124 in size x is accepted
+common : (x : Float) → T (fits binary32 x) → toBits binary32 x % 2147483648 ≤ 0x42f80000 → Accepts x
+common x f l =
+    let (n, m) = within 0xf80000 132 (record { few = omega arith; first = inr (omega arith) }) x (omega arith) f l in
+    let m′ : mag x ≤ 124 * 2 ^ 149 = m in
+    record { number = n; at-least = second (P x) (N x) (mag x) _ (size-sum x) (le-trans m′ (lit≤ tt)); at-most = first (P x) (N x) (mag x) _ (size-sum x) (le-trans m′ (lit≤ tt)) }
+  where
+    first : (a b c d : ℕ) → a + b ≡ c → c ≤ d → a ≤ d
+    first a b c d e h = omega arith
 
-rounded-requires : tie.Need-rounded-requires
-rounded-requires c κs = let (a, e) = c .before .argument .ensures .accepted (c .if1 .taken) in le-trans (le-of-eq e) (cut-top (c .before .before .args .x) a)
+    second : (a b c d : ℕ) → a + b ≡ c → c ≤ d → b ≤ d
+    second a b c d e h = omega arith
 
 returns : tie.Need-returns
-returns c =
-    let (a, e) = c .before .before .argument .ensures .accepted (c .before .if1 .taken) in
-    success (c .before .before .before .args .x) a (c .rounded .ensures ∙ ap roundedPower e)
+returns c = refusal (c .before .args .x) (λ a. no-number (c .before .args .x) (c .if1 .taken) (a .number))
+
+float-to-bits-wrapping-sub-u32 : tie.Need-float-to-bits-wrapping-sub-u32
+float-to-bits-wrapping-sub-u32 c = equal-to-itself (c .before .args .x) (c .if1 .left)
+
+wrapping-sub-u32-requires : tie.Need-wrapping-sub-u32-requires
+wrapping-sub-u32-requires c κs = search needs
+
+-- the pattern's test
+low : (b d : ℕ) → (d + 0x3b000000) % 4294967296 ≡ b % 2147483648 → d ≤ 0x07f80000 → (0x3b000000 ≤ b % 2147483648) × (b % 2147483648 ≤ 0x42f80000)
+low b d f h = (omega arith, omega arith)
+
+whole-cut-requires : tie.Need-whole-cut-requires
+whole-cut-requires c κs =
+    let x = c .before .before .before .args .x in
+    let (l, u) = low (toBits binary32 x) _ (c .before .wrapping-sub-u32 .ensures) (c .if2 .taken) in
+    (common x (subst T (sym (c .before .before .before .good .0 .1)) tt) u, l)
+
+rounded-requires : tie.Need-rounded-requires
+rounded-requires c κs = le-trans (le-of-eq (c .whole-cut .ensures)) (cut-top _ (whole-cut-requires (c .before) tt .0))
 
 returns-2 : tie.Need-returns-2
-returns-2 c = refusal (c .before .before .args .x) (c .before .argument .ensures .refused (c .if1 .left))
+returns-2 c = success _ (whole-cut-requires (c .before .before) tt .0) (c .rounded .ensures ∙ ap roundedPower (c .before .whole-cut .ensures))
+
+in-range-requires : tie.Need-in-range-requires
+in-range-requires c κs = search needs
+
+cut-off-requires : tie.Need-cut-off-requires
+cut-off-requires c κs = c .before .in-range .ensures .if-true (c .if3 .taken)
+
+rounded-requires-2 : tie.Need-rounded-requires-2
+rounded-requires-2 c κs = le-trans (le-of-eq (c .cut-off .ensures)) (cut-top _ (cut-off-requires (c .before) _))
+
+returns-3 : tie.Need-returns-3
+returns-3 c = success _ (cut-off-requires (c .before .before) _) (c .rounded2 .ensures ∙ ap roundedPower (c .before .cut-off .ensures))
+
+returns-4 : tie.Need-returns-4
+returns-4 c = refusal _ (c .before .in-range .ensures .if-false (c .if3 .left))
 
 pub exp2-spec : {M : Type 1} → statement M
-exp2-spec = tie.close (tie.spec argument-requires rounded-requires returns returns-2)
+exp2-spec =
+    tie.close
+    (tie.spec returns float-to-bits-wrapping-sub-u32 wrapping-sub-u32-requires whole-cut-requires rounded-requires returns-2 in-range-requires cut-off-requires rounded-requires-2 returns-3 returns-4)

@@ -10,7 +10,7 @@ use borrow.Author.Needs.{needs}
 use borrow.Author.Tests.{not-true, not-false}
 use Rattle.units.proofs.Size.{finite-real}
 use Rattle.sums.specs.Dot.{Lengths, allFinite, dotOf}
-use Rattle.sums.proofs.InTurn.{Fits}
+use Rattle.sums.proofs.Lists.{Fits}
 use Rattle.sums.proofs.DotProduct.{success, refused-lengths, refused-element, refused-overflow}
 use Rattle.sums.proofs.dot.Statement.{statement}
 use Rattle.sums.proofs.dot.Tie as tie
@@ -38,26 +38,26 @@ fits-first c i = c .before .before .before .shared-slice-known .given i
 fits-second : (c : tie.Else2) → Fits (second c)
 fits-second c i = c .before .before .shared-slice-known2 .given i
 
-in-turn-requires : tie.Need-in-turn-requires
-in-turn-requires c κs = search needs
+in-pairs-requires : tie.Need-in-pairs-requires
+in-pairs-requires c κs = search needs
 
 is-finite-requires : tie.Need-is-finite-requires
 is-finite-requires c κs = search needs
 
 -- what was tested is the sum in the program's order
 tested : (c : tie.After-is-finite) → c .is-finite .result ≡ finite (dotOf (first (c .before .before)) (second (c .before .before)))
-tested c = c .is-finite .ensures ∙ ap finite (c .before .in-turn .ensures)
+tested c = c .is-finite .ensures ∙ ap finite (c .before .in-pairs .ensures)
 
-passed : (c : tie.Then3) → T (finite (c .before .before .in-turn .result))
+passed : (c : tie.Then3) → T (finite (c .before .before .in-pairs .result))
 passed c = subst T (sym (c .if3 .taken) ∙ c .before .is-finite .ensures) tt
 
 float-to-bits-out : tie.Need-float-to-bits-out
-float-to-bits-out c = finite-real (c .before .before .in-turn .result) (passed c)
+float-to-bits-out c = finite-real (c .before .before .in-pairs .result) (passed c)
 
 returns-3 : tie.Need-returns-3
 returns-3 c =
     let e = c .before .before .before in
-    success (first e) (second e) (fits-first e) (fits-second e) (lengths e) (c .before .before .in-turn .ensures) (passed c)
+    success (first e) (second e) (fits-first e) (fits-second e) (lengths e) (c .before .before .in-pairs .ensures) (passed c)
 
 all-finite-requires : tie.Need-all-finite-requires
 all-finite-requires c κs = search needs
@@ -90,4 +90,4 @@ returns-6 c =
 pub dot-spec : {M : Type 1} → statement M
 dot-spec =
     tie.close
-    (tie.spec returns returns-2 in-turn-requires is-finite-requires float-to-bits-out returns-3 all-finite-requires returns-4 all-finite-requires-2 returns-5 returns-6)
+    (tie.spec returns returns-2 in-pairs-requires is-finite-requires float-to-bits-out returns-3 all-finite-requires returns-4 all-finite-requires-2 returns-5 returns-6)

@@ -6,7 +6,7 @@ use lib.ListN.{getD}
 use borrow.Author.Needs.{needs}
 use Rattle.loudness.specs.Map.{Envelope}
 use Rattle.loudness.specs.Value.{stepOf}
-use Rattle.loudness.proofs.Growth.{same-step}
+use Rattle.loudness.proofs.Promise.{segment}
 use Rattle.path.specs.Path.{quietest, loudest, threshold, comfort}
 use Rattle.path.specs.Steps.{envelopeOf}
 use Rattle.path.specs.Ready.{currentAt}
@@ -39,62 +39,59 @@ sum-requires c κs = let s = c .before .before .before .before in (s .pre .1 .ba
 envelope-requires : tie.Need-envelope-requires
 envelope-requires c κs = search needs
 
-add-fit : tie.Need-add-fit
-add-fit c = search needs
+add-segment-step : tie.Need-add-segment-step
+add-segment-step c = search needs
 
-mul-fit : tie.Need-mul-fit
-mul-fit c = search needs
+mul-segment-step : tie.Need-mul-segment-step
+mul-segment-step c = search needs
 
-shared-slice-read-fit : tie.Need-shared-slice-read-fit
-shared-slice-read-fit c = search needs
+shared-slice-read-segment-step : tie.Need-shared-slice-read-segment-step
+shared-slice-read-segment-step c = search needs
 
-float-from-bits-fit : tie.Need-float-from-bits-fit
-float-from-bits-fit c = let s = c .before .before .before .before .before .before .before in let g = c .shared-slice-known5 .given in readable _ (quiet-bits (getD (s .args .bands .now) (6 * s .args .i + 2) 0) (getD (s .args .bands .now) (6 * s .args .i + 3) 0) (omega (arith, g (6 * s .args .i + 2))) (omega (arith, g (6 * s .args .i + 3))) (s .pre .1 .band .channel .levels))
+float-from-bits-segment-step : tie.Need-float-from-bits-segment-step
+float-from-bits-segment-step c = let s = c .before .before .before .before .before .before .before in let g = c .shared-slice-known5 .given in readable _ (quiet-bits (getD (s .args .bands .now) (6 * s .args .i + 2) 0) (getD (s .args .bands .now) (6 * s .args .i + 3) 0) (omega (arith, g (6 * s .args .i + 2))) (omega (arith, g (6 * s .args .i + 3))) (s .pre .1 .band .channel .levels))
 
-add-fit-2 : tie.Need-add-fit-2
-add-fit-2 c = search needs
+add-segment-step-2 : tie.Need-add-segment-step-2
+add-segment-step-2 c = search needs
 
-mul-fit-2 : tie.Need-mul-fit-2
-mul-fit-2 c = search needs
+mul-segment-step-2 : tie.Need-mul-segment-step-2
+mul-segment-step-2 c = search needs
 
-shared-slice-read-fit-2 : tie.Need-shared-slice-read-fit-2
-shared-slice-read-fit-2 c = search needs
+shared-slice-read-segment-step-2 : tie.Need-shared-slice-read-segment-step-2
+shared-slice-read-segment-step-2 c = search needs
 
-float-from-bits-fit-2 : tie.Need-float-from-bits-fit-2
-float-from-bits-fit-2 c = let s = c .before .before .before .before .before .before .before .before in let g = c .shared-slice-known6 .given in readable _ (loud-bits (getD (s .args .bands .now) (6 * s .args .i + 2) 0) (getD (s .args .bands .now) (6 * s .args .i + 3) 0) (omega (arith, g (6 * s .args .i + 2))) (omega (arith, g (6 * s .args .i + 3))) (s .pre .1 .band .channel .levels))
+float-from-bits-segment-step-2 : tie.Need-float-from-bits-segment-step-2
+float-from-bits-segment-step-2 c = let s = c .before .before .before .before .before .before .before .before in let g = c .shared-slice-known6 .given in readable _ (loud-bits (getD (s .args .bands .now) (6 * s .args .i + 2) 0) (getD (s .args .bands .now) (6 * s .args .i + 3) 0) (omega (arith, g (6 * s .args .i + 2))) (omega (arith, g (6 * s .args .i + 3))) (s .pre .1 .band .channel .levels))
 
-add-fit-3 : tie.Need-add-fit-3
-add-fit-3 c = search needs
+add-segment-step-3 : tie.Need-add-segment-step-3
+add-segment-step-3 c = search needs
 
-mul-fit-3 : tie.Need-mul-fit-3
-mul-fit-3 c = search needs
+mul-segment-step-3 : tie.Need-mul-segment-step-3
+mul-segment-step-3 c = search needs
 
-shared-slice-read-fit-3 : tie.Need-shared-slice-read-fit-3
-shared-slice-read-fit-3 c = search needs
+shared-slice-read-segment-step-3 : tie.Need-shared-slice-read-segment-step-3
+shared-slice-read-segment-step-3 c = search needs
 
-add-fit-4 : tie.Need-add-fit-4
-add-fit-4 c = search needs
+add-segment-step-4 : tie.Need-add-segment-step-4
+add-segment-step-4 c = search needs
 
-mul-fit-4 : tie.Need-mul-fit-4
-mul-fit-4 c = search needs
+mul-segment-step-4 : tie.Need-mul-segment-step-4
+mul-segment-step-4 c = search needs
 
-shared-slice-read-fit-4 : tie.Need-shared-slice-read-fit-4
-shared-slice-read-fit-4 c = search needs
+shared-slice-read-segment-step-4 : tie.Need-shared-slice-read-segment-step-4
+shared-slice-read-segment-step-4 c = search needs
 
-fit-requires : tie.Need-fit-requires
-fit-requires c κs = search needs
-
-step-requires : tie.Need-step-requires
-step-requires c κs = (c .fit .ensures .holds, subst Envelope (sym (c .before .before .before .before .before .envelope .ensures)) (envelope _))
+segment-step-requires : tie.Need-segment-step-requires
+segment-step-requires c κs = (segment (c .before .before .before .before .before .before .before .before .before .before .pre .1 .band .channel), subst Envelope (sym (c .before .before .before .before .envelope .ensures)) (envelope _))
 
 returns : tie.Need-returns
 unfolding currentAt
 returns c =
-    let s = c .before .before .before .before .before .before .before .before .before .before .before .before in
+    let s = c .before .before .before .before .before .before .before .before .before .before .before in
     let bs = s .args .bands .now in
     let i = s .args .i in
-    c .step .ensures ∙ same-step (c .before .fit .result) _ (c .before .fit .ensures)
-    ∙ ap (stepOf (quietest bs i) (loudest bs i) (threshold bs i) (comfort bs i)) (c .before .before .before .before .before .before .envelope .ensures ∙ ap envelopeOf (c .before .before .before .before .before .before .before .sum .ensures))
+    c .segment-step .ensures
+    ∙ ap (stepOf (quietest bs i) (loudest bs i) (threshold bs i) (comfort bs i)) (c .before .before .before .before .before .envelope .ensures ∙ ap envelopeOf (c .before .before .before .before .before .before .sum .ensures))
 
 pub current-spec : {M : Type 1} → statement M
 current-spec =
@@ -108,20 +105,19 @@ current-spec =
     shared-slice-read-sum-2
     sum-requires
     envelope-requires
-    add-fit
-    mul-fit
-    shared-slice-read-fit
-    float-from-bits-fit
-    add-fit-2
-    mul-fit-2
-    shared-slice-read-fit-2
-    float-from-bits-fit-2
-    add-fit-3
-    mul-fit-3
-    shared-slice-read-fit-3
-    add-fit-4
-    mul-fit-4
-    shared-slice-read-fit-4
-    fit-requires
-    step-requires
+    add-segment-step
+    mul-segment-step
+    shared-slice-read-segment-step
+    float-from-bits-segment-step
+    add-segment-step-2
+    mul-segment-step-2
+    shared-slice-read-segment-step-2
+    float-from-bits-segment-step-2
+    add-segment-step-3
+    mul-segment-step-3
+    shared-slice-read-segment-step-3
+    add-segment-step-4
+    mul-segment-step-4
+    shared-slice-read-segment-step-4
+    segment-step-requires
     returns)
