@@ -13,10 +13,10 @@ use Rattle.units.specs.Tests.{Tells}
 use Rattle.units.proofs.Naturals.{le-or-lt}
 use Rattle.units.proofs.Bits.{no-nan-positive}
 use Rattle.units.proofs.Patterns.{pattern-back}
+use Rattle.spectrum.proofs.Loads.{no-nan}
 use Rattle.loudness.specs.Map.{Levels}
 use Rattle.loudness.proofs.Sizes.{too-loud, no-octave}
 use Rattle.path.specs.Path.{Band, Bands}
-use Rattle.path.proofs.Products.{no-nan}
 
 -- an answer of no
 pub refuse : {H : Type 0} → ¬ H → Tells H false

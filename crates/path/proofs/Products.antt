@@ -1,13 +1,13 @@
 -- A product of a sample and a window value: digits and places, the sign, and how far its word is from it. Assumes nothing.
 use mathlib.Core.Path.{_≡_, refl, sym, ap, ap₂, _∙_, subst}
 use mathlib.Core.Logic.{inl, inr}
-use mathlib.Core.Bool.{Bool, true, false, cond, not}
+use mathlib.Core.Bool.{Bool, true, false, cond}
 use Prim.Native.Nat.{ℕ, _+_, _-_, _*_, _/_, _%_, _^_, _≤_, _<_}
 use native.Mathlib.Nat.{le-trans, le-of-eq, lt-of-le-of-lt, lt-of-lt-of-le, mul-comm, mul-one, div-eq-of-lt, mul-le-mul, mul-le-mul-right, mul-div-mul-right, div-mul-le-self, lt-div-mul-add, le-of-mul-le-mul-right}
 use native.Mathlib.Omega.{arith}
-use lib.Dec.{T, lit<}
+use lib.Dec.{lit<}
 use lib.Pow.{pow-add, pow-pos, pow-mono}
-use lib.Ieee.{Float, nan, inf, fin, binary32, toBits, isNan}
+use lib.Ieee.{Float, binary32, toBits}
 use Rattle.units.specs.Units.{mag, negative, Number}
 use Rattle.units.proofs.Naturals.{le-or-lt}
 use Rattle.units.proofs.Patterns.{packed-of}
@@ -108,13 +108,6 @@ product-most x w sx sw = le-of-mul-le-mul-right (le-trans (div-mul-le-self (mag 
   where
     same : 2 ^ 149 * 2 ^ 149 * 2 ^ 53 ≡ 2 ^ 53 * 2 ^ 298
     same = refl
-
--- ---- a number is no NaN
-pub no-nan : (x : Float) → Number x → T (not (isNan x))
-unfolding isNan
-no-nan nan n = n .is-finite
-no-nan (inf s) n = tt
-no-nan (fin s m e) n = tt
 
 -- ---- signs
 sign : (x : Float) → Number x → (s : Bool) → negative x ≡ s → toBits binary32 x / 2147483648 ≡ cond s 1 0

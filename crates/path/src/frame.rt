@@ -3,22 +3,12 @@
 ghost use mathlib.Core.Path.{_≡_};
 ghost use Prim.Native.Nat.{ℕ, _*_, _/_, _%_, _^_, _≤_, _<_};
 ghost use lib.ListN.{length};
-ghost use lib.Ieee.{binary32, toBits};
-ghost use Rattle.units.specs.Units.{Number};
 ghost use Rattle.spectrum.specs.Transform.{at};
 ghost use Rattle.spectrum.specs.Floats.{digitsIn, placeIn};
 ghost use Rattle.path.specs.Steps.{productWord, Products};
 ghost use Rattle.path.specs.Ready.{Small};
 
 const UNIT: u64 = 0x2000_0000_0000_0000;
-
-// The pattern of a number: no NaN, so that nothing has to be asked.
-fn bits(x: f32) -> u32
-    requires { ⌜ Number x ⌝ }
-    ensures { λ r. ⌜ r ≡ toBits binary32 x ⌝ }
-{
-    f32::to_bits(x)
-}
 
 // n without its last s digits.
 fn without(n: u64, s: u32) -> u64
@@ -44,8 +34,8 @@ fn product(x: f32, w: f32) -> u64
     requires { ⌜ Small x × Small w ⌝ }
     ensures { λ r. ⌜ r ≡ productWord x w ⌝ }
 {
-    let a = bits(x);
-    let b = bits(w);
+    let a = spectrum::floats::number_bits(x);
+    let b = spectrum::floats::number_bits(w);
     let y = product_size(a % 2147483648, b % 2147483648);
     if a < 2147483648 {
         if b < 2147483648 {

@@ -14,20 +14,20 @@ use Rattle.path.proofs.Products.{product-size, product-most, clear, set
 use Rattle.path.proofs.frame.product.Statement.{statement}
 use Rattle.path.proofs.frame.product.Tie as tie
 
-bits-requires : tie.Need-bits-requires
-bits-requires c κs = c .pre .0 .number
+number-bits-requires : tie.Need-number-bits-requires
+number-bits-requires c κs = c .pre .0 .number
 
-bits-requires-2 : tie.Need-bits-requires-2
-bits-requires-2 c κs = c .before .pre .1 .number
+number-bits-requires-2 : tie.Need-number-bits-requires-2
+number-bits-requires-2 c κs = c .before .pre .1 .number
 
 product-size-requires : tie.Need-product-size-requires
-product-size-requires c κs = let s = c .before .before in (rw (c .before .bits .ensures) (s .pre .0 .bits), rw (c .bits2 .ensures) (s .pre .1 .bits))
+product-size-requires c κs = let s = c .before .before in (rw (c .before .number-bits .ensures) (s .pre .0 .bits), rw (c .number-bits2 .ensures) (s .pre .1 .bits))
 
 -- the size
 sized : (c : tie.After-product-size) → c .product-size .result ≡ productSize (c .before .before .before .args .x) (c .before .before .before .args .w)
 sized c =
     let s = c .before .before .before in
-    c .product-size .ensures ∙ ap₂ (λ a b. sizeIn (a % 2147483648) * sizeIn (b % 2147483648) * 2 ^ 53 / 2 ^ 298) (c .before .before .bits .ensures) (c .before .bits2 .ensures) ∙ product-size (s .args .x) (s .args .w) (s .pre .0) (s .pre .1)
+    c .product-size .ensures ∙ ap₂ (λ a b. sizeIn (a % 2147483648) * sizeIn (b % 2147483648) * 2 ^ 53 / 2 ^ 298) (c .before .before .number-bits .ensures) (c .before .number-bits2 .ensures) ∙ product-size (s .args .x) (s .args .w) (s .pre .0) (s .pre .1)
 
 least : (c : tie.After-product-size) → c .product-size .result ≤ 2 ^ 53
 least c = let s = c .before .before .before in le-trans (le-of-eq (sized c)) (product-most (s .args .x) (s .args .w) (s .pre .0) (s .pre .1))
@@ -37,17 +37,17 @@ worded : (c : tie.After-product-size) (a b : Bool) → negative (c .before .befo
     → cond a (cond b (unit + c .product-size .result) (unit - c .product-size .result)) (cond b (unit - c .product-size .result) (unit + c .product-size .result)) ≡ productWord (c .before .before .before .args .x) (c .before .before .before .args .w)
 worded c a b e f = let s = c .before .before .before in ap (λ (q : ℕ). cond a (cond b (unit + q) (unit - q)) (cond b (unit - q) (unit + q))) (sized c) ∙ sym (word-is (s .args .x) (s .args .w) a b e f)
 
-x-clear : (c : tie.After-product-size) → c .before .before .bits .result < 2147483648 → negative (c .before .before .before .args .x) ≡ false
-x-clear c l = let s = c .before .before .before in clear (s .args .x) (s .pre .0 .number) (rw (c .before .before .bits .ensures) at l)
+x-clear : (c : tie.After-product-size) → c .before .before .number-bits .result < 2147483648 → negative (c .before .before .before .args .x) ≡ false
+x-clear c l = let s = c .before .before .before in clear (s .args .x) (s .pre .0 .number) (rw (c .before .before .number-bits .ensures) at l)
 
-x-set : (c : tie.After-product-size) → 2147483648 ≤ c .before .before .bits .result → negative (c .before .before .before .args .x) ≡ true
-x-set c l = let s = c .before .before .before in set (s .args .x) (s .pre .0 .number) (rw (c .before .before .bits .ensures) at l)
+x-set : (c : tie.After-product-size) → 2147483648 ≤ c .before .before .number-bits .result → negative (c .before .before .before .args .x) ≡ true
+x-set c l = let s = c .before .before .before in set (s .args .x) (s .pre .0 .number) (rw (c .before .before .number-bits .ensures) at l)
 
-w-clear : (c : tie.After-product-size) → c .before .bits2 .result < 2147483648 → negative (c .before .before .before .args .w) ≡ false
-w-clear c l = let s = c .before .before .before in clear (s .args .w) (s .pre .1 .number) (rw (c .before .bits2 .ensures) at l)
+w-clear : (c : tie.After-product-size) → c .before .number-bits2 .result < 2147483648 → negative (c .before .before .before .args .w) ≡ false
+w-clear c l = let s = c .before .before .before in clear (s .args .w) (s .pre .1 .number) (rw (c .before .number-bits2 .ensures) at l)
 
-w-set : (c : tie.After-product-size) → 2147483648 ≤ c .before .bits2 .result → negative (c .before .before .before .args .w) ≡ true
-w-set c l = let s = c .before .before .before in set (s .args .w) (s .pre .1 .number) (rw (c .before .bits2 .ensures) at l)
+w-set : (c : tie.After-product-size) → 2147483648 ≤ c .before .number-bits2 .result → negative (c .before .before .before .args .w) ≡ true
+w-set c l = let s = c .before .before .before in set (s .args .w) (s .pre .1 .number) (rw (c .before .number-bits2 .ensures) at l)
 
 add-result : tie.Need-add-result
 add-result c = omega (arith, least (c .before .before))
@@ -77,8 +77,8 @@ pub product-spec : {M : Type 1} → statement M
 product-spec =
     tie.close
     (tie.spec
-    bits-requires
-    bits-requires-2
+    number-bits-requires
+    number-bits-requires-2
     product-size-requires
     add-result
     returns
