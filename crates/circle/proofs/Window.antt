@@ -3,7 +3,7 @@
 use mathlib.Core.Path.{_≡_}
 use mathlib.Core.Logic.{inl, inr}
 use mathlib.Core.Bool.{Bool, true, _&&_}
-use Prim.Native.Nat.{ℕ, zero, suc, _*_, _/_, _%_, _^_, _<_}
+use Prim.Native.Nat.{ℕ, zero, suc, _-_, _*_, _/_, _%_, _^_, _<_}
 use native.Mathlib.Nat.{le-of-suc-le-suc, eq-or-lt-of-le, lt-of-le-of-lt, le-of-eq, mod-lt}
 use native.Mathlib.Omega.{arith}
 use lib.Dec.{T, eqb, eqb→eq}
@@ -35,7 +35,7 @@ windowTest i = eqb (windowOf i) (turnsOf i % 2 ^ 64)
 
 -- how many windows the table makes
 abbrev pub windows : ℕ
-windows = 55
+windows = 169
 
 windows-pass : T (all windowTest windows)
 unfolding all windowTest windowOf turnsOf quarter quarterUnit
@@ -50,3 +50,15 @@ module _ (i : ℕ) (h : i < windows) where
   -- and has 64 digits
   pub window-few : windowOf i < 2 ^ 64
   window-few = lt-of-le-of-lt (le-of-eq window-turns) (mod-lt (turnsOf i) (pow-pos 64))
+
+-- ---- the first windows: 63 digits of 1 / (2 pi), cut off
+unfoldable firstTest : ℕ → Bool
+firstTest i = eqb (0x145f306dc9c882a5 / 2 ^ (63 - i)) (windowOf i)
+
+firsts-pass : T (all firstTest 55)
+unfolding all firstTest windowOf
+firsts-pass = tt
+
+pub first-windows : (i : ℕ) → i < 55 → 0x145f306dc9c882a5 / 2 ^ (63 - i) ≡ windowOf i
+unfolding firstTest
+first-windows i h = eqb→eq (0x145f306dc9c882a5 / 2 ^ (63 - i)) (windowOf i) (all-sound firstTest 55 firsts-pass i h)
