@@ -2,10 +2,10 @@
 use mathlib.Core.Path.{_≡_, refl, sym, ap, _∙_}
 use mathlib.Core.Logic.{_⊎_, inl, inr}
 use Prim.Native.Nat.{ℕ, suc, _+_, _-_, _*_, _/_, _%_, _^_, _≤_, _<_}
-use native.Mathlib.Nat.{le-trans, le-of-eq, le-of-lt, lt-of-le-of-lt, lt-of-lt-of-le, mul-comm, mul-zero, mul-le-mul-left, mul-le-mul-right, mul-lt-mul-of-pos-right, mul-div-mul-right, div-eq-of-lt, add-mul-mod-self-right, le-of-suc-le-suc, pow-suc}
+use native.Mathlib.Nat.{le-of-eq, le-of-lt, lt-of-le-of-lt, lt-of-lt-of-le, mul-comm, mul-zero, mul-le-mul-left, mul-lt-mul-of-pos-right, mul-div-mul-right, div-eq-of-lt, add-mul-mod-self-right, le-of-suc-le-suc, pow-suc}
 use native.Mathlib.Omega.{arith}
 use lib.Dec.{lit≤}
-use lib.Pow.{pow-add, pow-pos, pow-mono}
+use lib.Pow.{pow-pos, pow-mono}
 use lib.Ieee.{Float, binary32, toBits}
 use Rattle.units.specs.Units.{mag, Number}
 use Rattle.units.proofs.Naturals.{le-or-lt}

@@ -4,12 +4,11 @@ use mathlib.Core.Path.{_≡_}
 use mathlib.Core.Logic.{inl, inr}
 use mathlib.Core.Bool.{Bool, true, _&&_}
 use Prim.Native.Nat.{ℕ, zero, suc, _-_, _*_, _/_, _%_, _^_, _<_}
-use native.Mathlib.Nat.{le-of-suc-le-suc, eq-or-lt-of-le, lt-of-le-of-lt, le-of-eq, mod-lt}
+use native.Mathlib.Nat.{le-of-suc-le-suc, eq-or-lt-of-le}
 use native.Mathlib.Omega.{arith}
 use lib.Dec.{T, eqb, eqb→eq}
-use lib.Pow.{pow-pos}
 use lib.Ieee.Fits.{and-l, and-r}
-use Rattle.circle.specs.Phase.{windowOf}
+use Rattle.circle.specs.Phase.{firstDigits, windowOf}
 use Rattle.exact.specs.Circle.{quarter, quarterUnit}
 
 -- a test of every number below k
@@ -41,24 +40,19 @@ windows-pass : T (all windowTest windows)
 unfolding all windowTest windowOf turnsOf quarter quarterUnit
 windows-pass = tt
 
-module _ (i : ℕ) (h : i < windows) where
-  -- a window is those turns
-  pub window-turns : windowOf i ≡ turnsOf i % 2 ^ 64
-  unfolding windowTest
-  window-turns = eqb→eq (windowOf i) (turnsOf i % 2 ^ 64) (all-sound windowTest windows windows-pass i h)
+-- a window is those turns
+pub window-turns : (i : ℕ) → i < windows → windowOf i ≡ turnsOf i % 2 ^ 64
+unfolding windowTest
+window-turns i h = eqb→eq (windowOf i) (turnsOf i % 2 ^ 64) (all-sound windowTest windows windows-pass i h)
 
-  -- and has 64 digits
-  pub window-few : windowOf i < 2 ^ 64
-  window-few = lt-of-le-of-lt (le-of-eq window-turns) (mod-lt (turnsOf i) (pow-pos 64))
-
--- ---- the first windows: 63 digits of 1 / (2 pi), cut off
+-- ---- the first windows are the first digits, cut off
 unfoldable firstTest : ℕ → Bool
-firstTest i = eqb (0x145f306dc9c882a5 / 2 ^ (63 - i)) (windowOf i)
+firstTest i = eqb (firstDigits / 2 ^ (63 - i)) (windowOf i)
 
-firsts-pass : T (all firstTest 55)
+firsts-pass : T (all firstTest 64)
 unfolding all firstTest windowOf
 firsts-pass = tt
 
-pub first-windows : (i : ℕ) → i < 55 → 0x145f306dc9c882a5 / 2 ^ (63 - i) ≡ windowOf i
+pub first-windows : (i : ℕ) → i < 64 → firstDigits / 2 ^ (63 - i) ≡ windowOf i
 unfolding firstTest
-first-windows i h = eqb→eq (0x145f306dc9c882a5 / 2 ^ (63 - i)) (windowOf i) (all-sound firstTest 55 firsts-pass i h)
+first-windows i h = eqb→eq (firstDigits / 2 ^ (63 - i)) (windowOf i) (all-sound firstTest 64 firsts-pass i h)

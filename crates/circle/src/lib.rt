@@ -12,8 +12,8 @@ ghost use Rattle.circle.specs.Promise.{SinPi, CosPi, Sin, Cos};
 // The pattern of 2^22, which phases of pi x are below.
 const LATEST: u32 = 0x4a80_0000;
 
-// The pattern of 8192, up to which a phase is taken the short way.
-const NEAR: u32 = 0x4600_0000;
+// The pattern of 2^23, below which a phase is taken the short way.
+const FAR: u32 = 0x4b00_0000;
 
 // The pattern of infinity, which that of every finite size is below.
 const INFINITY: u32 = 0x7f80_0000;
@@ -117,7 +117,7 @@ pub fn sin(x: f32, out: &mut u32) -> u32
     }
     let b = f32::to_bits(x);
     let size = b % 2147483648;
-    let phase = if size <= NEAR {
+    let phase = if size < FAR {
         phase::radians(size)
     } else if size < INFINITY {
         phase::far_radians(size)
@@ -136,7 +136,7 @@ pub fn cos(x: f32, out: &mut u32) -> u32
         return 1;
     }
     let size = f32::to_bits(x) % 2147483648;
-    let phase = if size <= NEAR {
+    let phase = if size < FAR {
         phase::radians(size)
     } else if size < INFINITY {
         phase::far_radians(size)

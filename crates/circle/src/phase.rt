@@ -25,11 +25,10 @@ pub struct Words(pub u32, pub u32, pub u32);
 // Three words of the binary digits of 1 / (2 pi), from the j-th on; the first two of all are 64 zeros. tools/circle.py prints them. What is
 // proved of them is one test over all windows, in proofs/Window.antt.
 fn three_words(j: u32) -> Words
-    requires { ⌜ (1 ≤ j) × (j < 6) ⌝ }
+    requires { ⌜ (2 ≤ j) × (j < 6) ⌝ }
     ensures { λ r. ⌜ (r .0 ≡ wordOf j) × (r .1 ≡ wordOf (j + 1)) × (r .2 ≡ wordOf (j + 2)) ⌝ }
 {
     match j {
-        1 => Words(0x0000_0000, 0x28be_60db, 0x9391_054a),
         2 => Words(0x28be_60db, 0x9391_054a, 0x7f09_d5f4),
         3 => Words(0x9391_054a, 0x7f09_d5f4, 0x7d4d_3770),
         4 => Words(0x7f09_d5f4, 0x7d4d_3770, 0x36d8_a566),
@@ -47,7 +46,7 @@ fn joined(word: u32, next: u32, s: u32) -> u32
 
 // The 64 digits up to the i-th after the point.
 fn window(i: u32) -> u64
-    requires { ⌜ (32 ≤ i) × (i < 169) ⌝ }
+    requires { ⌜ (64 ≤ i) × (i < 169) ⌝ }
     ensures { λ r. ⌜ r ≡ windowOf i ⌝ }
 {
     let t = three_words(i / 32);
@@ -55,9 +54,9 @@ fn window(i: u32) -> u64
     joined(t.0, t.1, s) as u64 * 4294967296 + joined(t.1, t.2, s) as u64
 }
 
-// The same where 63 digits are all that there are: one shift, and no table.
+// The same of the first 63: one shift, and no table.
 fn first_window(i: u32) -> u64
-    requires { ⌜ i < 55 ⌝ }
+    requires { ⌜ i < 64 ⌝ }
     ensures { λ r. ⌜ r ≡ windowOf i ⌝ }
 {
     0x145f_306d_c9c8_82a5 >> (63 - i)
@@ -78,17 +77,17 @@ fn turns(b: u32, w: u64) -> u64
     std::num::wrapping_add_u64((m * (w / 4294967296)) << 32, m * (w % 4294967296))
 }
 
-// The size itself, at most 8192: its digits times the window at its exponent.
+// The size itself, below 2^23: its digits times the window at its exponent.
 pub fn radians(b: u32) -> u64
-    requires { ⌜ b < 141 * 8388608 ⌝ }
+    requires { ⌜ b < 150 * 8388608 ⌝ }
     ensures { λ r. ⌜ r ≡ radians b ⌝ }
 {
     turns(b, first_window(beyond(b / 8388608)))
 }
 
-// The same of a size from 8192 on.
+// The same of a size from 2^23 on.
 pub fn far_radians(b: u32) -> u64
-    requires { ⌜ (140 * 8388608 ≤ b) × (b < 255 * 8388608) ⌝ }
+    requires { ⌜ (150 * 8388608 ≤ b) × (b < 255 * 8388608) ⌝ }
     ensures { λ r. ⌜ r ≡ radians b ⌝ }
 {
     turns(b, window(b / 8388608 - 86))
