@@ -8,7 +8,7 @@ use native.Mathlib.Nat.{le-of-suc-le-suc, eq-or-lt-of-le}
 use native.Mathlib.Omega.{arith}
 use lib.Dec.{T, eqb, eqb→eq}
 use lib.Ieee.Fits.{and-l, and-r}
-use Rattle.circle.specs.Phase.{firstDigits, windowOf}
+use Rattle.circle.specs.Phase.{firstWord, firstDigits, windowOf}
 use Rattle.exact.specs.Circle.{quarter, quarterUnit}
 
 -- a test of every number below k
@@ -46,13 +46,18 @@ unfolding windowTest
 window-turns i h = eqb→eq (windowOf i) (turnsOf i % 2 ^ 64) (all-sound windowTest windows windows-pass i h)
 
 -- ---- the first windows are the first digits, cut off
-unfoldable firstTest : ℕ → Bool
-firstTest i = eqb (firstDigits / 2 ^ (63 - i)) (windowOf i)
+unfoldable cutTest : ℕ → ℕ → ℕ → Bool
+cutTest digits count i = eqb (digits / 2 ^ (count - i)) (windowOf i)
 
-firsts-pass : T (all firstTest 64)
-unfolding all firstTest windowOf
-firsts-pass = tt
+cut-passes : (T (all (cutTest firstWord 31) 32)) × (T (all (cutTest firstDigits 63) 64))
+unfolding all cutTest windowOf
+cut-passes = (tt, tt)
 
-pub first-windows : (i : ℕ) → i < 64 → firstDigits / 2 ^ (63 - i) ≡ windowOf i
-unfolding firstTest
-first-windows i h = eqb→eq (firstDigits / 2 ^ (63 - i)) (windowOf i) (all-sound firstTest 64 firsts-pass i h)
+module _ (i : ℕ) where
+  pub first-word : i < 32 → firstWord / 2 ^ (31 - i) ≡ windowOf i
+  unfolding cutTest
+  first-word h = eqb→eq (firstWord / 2 ^ (31 - i)) (windowOf i) (all-sound (cutTest firstWord 31) 32 (cut-passes .0) i h)
+
+  pub first-digits : i < 64 → firstDigits / 2 ^ (63 - i) ≡ windowOf i
+  unfolding cutTest
+  first-digits h = eqb→eq (firstDigits / 2 ^ (63 - i)) (windowOf i) (all-sound (cutTest firstDigits 63) 64 (cut-passes .1) i h)

@@ -29,7 +29,10 @@ joinedOf word next s = (word * 2 ^ s % 2 ^ 32 + next / 2 / 2 ^ (31 - s)) % 2 ^ 3
 unfoldable pub windowOf : ℕ → ℕ
 windowOf i = joinedOf (wordOf (i / 32)) (wordOf (i / 32 + 1)) (i % 32) * 4294967296 + joinedOf (wordOf (i / 32 + 1)) (wordOf (i / 32 + 2)) (i % 32)
 
--- the first 63 digits after the point in one number: all that the windows of sizes below 2 ^ 23 are made of
+-- the first 31 digits after the point in one number, and the first 63: all that the windows of sizes below 2 ^ -9 and 2 ^ 23 are made of
+abbrev pub firstWord : ℕ
+firstWord = 0x145f306d
+
 abbrev pub firstDigits : ℕ
 firstDigits = 0x145f306dc9c882a5
 

@@ -4,6 +4,11 @@ ghost use mathlib.Core.Path.{_≡_};
 ghost use Prim.Native.Nat.{_+_, _-_, _*_, _/_, _%_, _^_, _<_, _≤_};
 ghost use Rattle.circle.specs.Phase.{significandOf, halfTurns, wordOf, joinedOf, windowOf, radians};
 
+// The first 31 digits of 1 / (2 pi), and the first 63.
+const FIRST_WORD: u32 = 0x145f_306d;
+
+const FIRST_DIGITS: u64 = 0x145f_306d_c9c8_82a5;
+
 // pi times the size, below 2^22: half as many turns. The digits are shifted to their place; above it whole turns fall out, and below it the rest.
 pub fn half_turns(b: u32) -> u64
     requires { ⌜ b < 149 * 8388608 ⌝ }
@@ -54,19 +59,23 @@ fn window(i: u32) -> u64
     joined(t.0, t.1, s) as u64 * 4294967296 + joined(t.1, t.2, s) as u64
 }
 
-// The same of the first 63: one shift, and no table.
-fn first_window(i: u32) -> u64
-    requires { ⌜ i < 64 ⌝ }
-    ensures { λ r. ⌜ r ≡ windowOf i ⌝ }
-{
-    0x145f_306d_c9c8_82a5 >> (63 - i)
-}
-
 // How far the exponent is beyond 86, below which a window has no digit yet.
 fn beyond(e: u32) -> u32
     ensures { λ r. ⌜ r ≡ e - 86 ⌝ }
 {
     if e < 86 { 0 } else { e - 86 }
+}
+
+// The window at an exponent below 150 has only the first 63 digits: a shift, and no table. Below 2^-9 a word of them is enough. The remainder changes
+// nothing, but tells a compiler for 32 bits that it shifts by less than a word.
+fn first_window(e: u32) -> u64
+    requires { ⌜ e < 150 ⌝ }
+    ensures { λ r. ⌜ r ≡ windowOf (e - 86) ⌝ }
+{
+    if e < 118 {
+        return (FIRST_WORD >> (31 - beyond(e))) as u64;
+    }
+    FIRST_DIGITS >> ((149 - e) % 32)
 }
 
 // The digits of a size times a window. Whole turns fall out of the product.
@@ -82,7 +91,7 @@ pub fn radians(b: u32) -> u64
     requires { ⌜ b < 150 * 8388608 ⌝ }
     ensures { λ r. ⌜ r ≡ radians b ⌝ }
 {
-    turns(b, first_window(beyond(b / 8388608)))
+    turns(b, first_window(b / 8388608))
 }
 
 // The same of a size from 2^23 on.
