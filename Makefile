@@ -1,7 +1,7 @@
 # make         proves and builds build/libearmath.a and the program build/earmath, then compiles and runs the example
 # make test    the gate, .ci/run: all proofs, and the tests of the archive from C
 # make every   all 2^32 patterns through each function of one argument, ONLY=ear_exp2 for one of
-#              them, and all floats of three channels through the loudness map (some minutes)
+#              them, and all floats of three channels through each loudness map (some minutes)
 # make others  all 2^32 patterns through newlib's and glibc's functions, judged as ours are (some minutes)
 # make bench   speed beside newlib's and glibc's functions, and beside a loop in C; writes docs/bench.txt
 # make filter  64 taps over a second of sound, examples/filter.c: its error beside the promise, its speed beside a plain loop
@@ -11,7 +11,7 @@
 CC = cc
 CFLAGS = -O2 -Wall -Wextra
 LIBRARY = build/libearmath.a
-TESTS = values refusals spread phases wrong modes dot softmax loudness loudness_wrong top knee
+TESTS = values refusals spread phases wrong modes dot dot_nearest softmax loudness loudness_wrong top knee
 
 # Tests stand in folders by subject. What is no test or sweep there is a helper that all of them share.
 FOLDERS = tests/harness tests/functions tests/lists tests/loudness tests/chip
@@ -90,6 +90,8 @@ build/roots build/growth build/filter: build/%: examples/%.c include/earmath.h $
 
 build/growth.svg: build/growth
 	build/growth --svg >$@
+	build/growth --svg --top 1023 0.001 0.316227766 200 900 >build/growth-1023.svg
+	build/growth --svg --knee 0.02 170 0.001 0.316227766 100 200 >build/growth-knee.svg
 
 build/helpers/%.o: %.c $(HEADERS) | mpfr
 	@mkdir -p $(@D)

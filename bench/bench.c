@@ -16,6 +16,7 @@
 float newlib_sqrtf(float x);
 float newlib_log2f(float x);
 float newlib_powf(float x, float y);
+float newlib_expf(float x);
 float newlib_sinf(float x);
 float newlib_cosf(float x);
 
@@ -28,6 +29,7 @@ enum evenly { OVER_PATTERNS, OVER_VALUES };
 #define BETWEEN {"a from b to m", OVER_PATTERNS, 0.001f, 0.316227766f}
 #define UP_TO_ONE {"a from 0 to 1", OVER_VALUES, 0, 1}
 #define EVERY_POWER {"x from -126 to 127", OVER_VALUES, -126, 127}
+#define EVERY_EXPONENT {"x from -87 to 88", OVER_VALUES, -87, 88}
 #define AROUND_ZERO {"x from -1 to 1", OVER_VALUES, -1, 1}
 #define EVERY_ANGLE {"-8192 <= x <= 8192", OVER_VALUES, -8192, 8192}
 #define SINCE_POWER_ON {"8192 <= x <= 1e8", OVER_VALUES, 8192, 1e8f}
@@ -42,6 +44,7 @@ enum evenly { OVER_PATTERNS, OVER_VALUES };
     LINE(square_root, ear_sqrt(x, out), newlib_sqrtf(x), sqrtf(x), EVERY_NORMAL, ONE_TO_FOUR) \
     LINE(reciprocal_root, ear_rsqrt(x, out), 1.0f / newlib_sqrtf(x), 1.0f / sqrtf(x), EVERY_NORMAL, ONE_TO_FOUR) \
     LINE(power_of_two, ear_exp2(x, out), newlib_powf(2.0f, x), exp2f(x), EVERY_POWER, AROUND_ZERO) \
+    LINE(exponential, ear_exp(x, out), newlib_expf(x), expf(x), EVERY_EXPONENT, AROUND_ZERO) \
     LINE(logarithm, ear_log2(x, out), newlib_log2f(x), log2f(x), EVERY_NORMAL, ONE_TO_FOUR) \
     LINE(sine, ear_sin(x, out), newlib_sinf(x), sinf(x), EVERY_ANGLE, AROUND_ZERO) \
     LINE(cosine, ear_cos(x, out), newlib_cosf(x), cosf(x), EVERY_ANGLE, AROUND_ZERO) \
@@ -186,7 +189,7 @@ int main(void)
     puts("Nanoseconds for a call, best of all rounds; a ratio above 1 means that ours is the faster.");
     puts("glibc's sqrtf is called in the library, whose code is the processor's root instruction;");
     puts("the reciprocal root's rivals are 1.0f / sqrtf(x), which is not always the nearest float;");
-    puts("newlib's exp2f without double precision is powf(2, x), its log2f is logf(x) / ln 2, and glibc's two compute");
+    puts("newlib's exp2f without double precision is powf(2, x), its log2f is logf(x) / ln 2, and glibc's three, expf among them, compute");
     puts("in double precision, as its sinf and cosf do; neither has a function of pi x, so there they take pi * x, rounded;");
     puts("the loudness map's are straightforward C on their log2f, with three logarithms in a call.\n");
     printf("%-16s %-19s %-11s %7s %7s %7s %12s %11s\n", "function", "inputs", "measure", "ours", "newlib", "glibc",

@@ -14,6 +14,7 @@
 #include "straight.h"
 
 float newlib_powf(float x, float y);
+float newlib_expf(float x);
 
 enum { LONGEST = 1024, ROUNDS = 200, CALLS = 40, LISTS = 2000, CONTESTANTS = 3 };
 
@@ -22,22 +23,32 @@ static float newlib_exp2f(float x)
     return newlib_powf(2, x);
 }
 
-static uint32_t ours(const float *x, size_t n, float *p)
-{
-    return ear_softmax2(x, n, p, n);
-}
+typedef uint32_t (*contestant)(const float *x, size_t n, float *p);
 
-static uint32_t on_newlib(const float *x, size_t n, float *p)
-{
-    return straight_softmax(newlib_exp2f, x, n, p);
-}
+#define CONTESTANT(name, call) \
+    static uint32_t name(const float *x, size_t n, float *p) \
+    { \
+        return call; \
+    }
 
-static uint32_t on_glibc(const float *x, size_t n, float *p)
-{
-    return straight_softmax(exp2f, x, n, p);
-}
+CONTESTANT(ours_2, ear_softmax2(x, n, p, n))
+CONTESTANT(newlib_2, straight_softmax(newlib_exp2f, x, n, p))
+CONTESTANT(glibc_2, straight_softmax(exp2f, x, n, p))
+CONTESTANT(ours_e, ear_softmax(x, n, p, n))
+CONTESTANT(newlib_e, straight_softmax(newlib_expf, x, n, p))
+CONTESTANT(glibc_e, straight_softmax(expf, x, n, p))
 
-static uint32_t (*const contestants[CONTESTANTS])(const float *, size_t, float *) = {ours, on_newlib, on_glibc};
+/* The two bases: ours, newlib and glibc, and the exact power. */
+static const struct base {
+    const char *name;
+    contestant contestants[CONTESTANTS];
+    long double (*power)(long double x);
+} bases[] = {
+    {"ear_softmax2", {ours_2, newlib_2, glibc_2}, exp2l},
+    {"ear_softmax", {ours_e, newlib_e, glibc_e}, expl},
+};
+
+enum { BASES = sizeof bases / sizeof bases[0] };
 
 static float x[LONGEST], p[LONGEST];
 
@@ -51,7 +62,7 @@ static void fill(size_t n, float spread)
     }
 }
 
-static void speed(size_t n)
+static void speed(const struct base *b, size_t n)
 {
     double best[CONTESTANTS] = {INFINITY, INFINITY, INFINITY};
     for (int round = 0; round < ROUNDS; round++) {
@@ -59,13 +70,13 @@ static void speed(size_t n)
         for (int who = 0; who < CONTESTANTS; who++) {
             double start = now();
             for (int i = 0; i < CALLS; i++) {
-                contestants[who](x, n, p);
+                b->contestants[who](x, n, p);
                 x[i] = p[i]; /* each call waits for the one before */
             }
             best[who] = fmin(best[who], (now() - start) / CALLS / (double)n);
         }
     }
-    printf("softmax, n = %-5zu %10.2f %10.2f %10.2f %12.2f %12.2f\n", n, best[0], best[1], best[2], best[1] / best[0],
+    printf("%-12s, n = %-5zu %10.2f %10.2f %10.2f %12.2f %12.2f\n", b->name, n, best[0], best[1], best[2], best[1] / best[0],
            best[2] / best[0]);
 }
 
@@ -85,15 +96,15 @@ struct score {
 };
 
 /* Where the quotient is at least 2^-100; long double's own error is 2^-60. */
-static void score(struct score *s, uint32_t (*call)(const float *, size_t, float *), size_t n)
+static void score(struct score *s, const struct base *b, int who, size_t n)
 {
     struct pair pairs[LONGEST];
     long double sum = 0;
-    call(x, n, p);
+    b->contestants[who](x, n, p);
     for (size_t i = 0; i < n; i++)
-        sum += exp2l(x[i]);
+        sum += b->power(x[i]);
     for (size_t i = 0; i < n; i++) {
-        long double exact = exp2l(x[i]) / sum;
+        long double exact = b->power(x[i]) / sum;
         if (exact >= 0x1p-100L)
             s->worst = fmax(s->worst, (double)(fabsl(p[i] - exact) / exact));
         pairs[i] = (struct pair){x[i], p[i]};
@@ -104,15 +115,15 @@ static void score(struct score *s, uint32_t (*call)(const float *, size_t, float
     s->outputs += (uint32_t)n;
 }
 
-static void quality(size_t n, float spread)
+static void quality(const struct base *b, size_t n, float spread)
 {
     struct score s[CONTESTANTS] = {{0}};
     for (int list = 0; list < LISTS; list++) {
         fill(n, spread);
         for (int who = 0; who < CONTESTANTS; who++)
-            score(&s[who], contestants[who], n);
+            score(&s[who], b, who, n);
     }
-    printf("%5zu %10g %10u  2^%.3f 2^%.3f 2^%.3f        %u %u %u\n", n, (double)spread, (unsigned)s[0].outputs,
+    printf("%-12s %5zu %10g %10u  2^%.3f 2^%.3f 2^%.3f        %u %u %u\n", b->name, n, (double)spread, (unsigned)s[0].outputs,
            log2(s[0].worst), log2(s[1].worst), log2(s[2].worst), (unsigned)s[0].broken, (unsigned)s[1].broken,
            (unsigned)s[2].broken);
 }
@@ -120,15 +131,19 @@ static void quality(size_t n, float spread)
 int main(void)
 {
     puts("\nNanoseconds for an element beside straightforward C on newlib's and glibc's functions.\n");
-    printf("%-18s %10s %10s %10s %12s %12s\n", "", "ours", "newlib", "glibc", "newlib/ours", "glibc/ours");
-    speed(64);
-    speed(1024);
+    printf("%-23s %10s %10s %10s %12s %12s\n", "", "ours", "newlib", "glibc", "newlib/ours", "glibc/ours");
+    for (int i = 0; i < BASES; i++) {
+        speed(&bases[i], 64);
+        speed(&bases[i], 1024);
+    }
     puts("\nThe worst relative error where the quotient is at least 2^-100, and outputs out of order.\n");
-    printf("%5s %10s %10s  %-27s %s\n", "n", "spread", "outputs", "worst: ours, newlib, glibc",
+    printf("%-12s %5s %10s %10s  %-27s %s\n", "", "n", "spread", "outputs", "worst: ours, newlib, glibc",
            "broken: ours, newlib, glibc");
-    quality(64, 0x1p-12f);
-    quality(64, 20);
-    quality(64, 120);
-    quality(1024, 20);
+    for (int i = 0; i < BASES; i++) {
+        quality(&bases[i], 64, 0x1p-12f);
+        quality(&bases[i], 64, 20);
+        quality(&bases[i], 64, 120);
+        quality(&bases[i], 1024, 20);
+    }
     return 0;
 }

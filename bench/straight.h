@@ -1,10 +1,12 @@
 /*
  * Straightforward C: the same tests as in our functions, and the formula with some
- * library's log2f or exp2f.
+ * library's log2f or exp2f, or with float arithmetic.
  */
 #ifndef STRAIGHT_H
 #define STRAIGHT_H
 
+#include <stdbool.h>
+#include <stddef.h>
 #include <stdint.h>
 
 #include "earmath.h"
@@ -44,6 +46,37 @@ static inline uint32_t straight_softmax(float (*exp2_of)(float), const float *x,
         sum += p[i] = exp2_of(x[i]);
     for (uint32_t i = 0; i < n; i++)
         p[i] = p[i] / sum;
+    return EAR_OK;
+}
+
+/* ---- the dot product that carries its rounding errors along (Ogita, Rump, Oishi: Dot2) */
+static inline bool straight_element(float x)
+{
+    return x == 0 || (__builtin_fabsf(x) >= 0x1p-40f && __builtin_fabsf(x) <= 0x1p40f);
+}
+
+/* x * y - p exactly, where p is the rounded product: both are split into halves of 12 digits. */
+static inline float lost_by_product(float x, float y, float p)
+{
+    float t = 4097 * x, x1 = t - (t - x), x2 = x - x1;
+    t = 4097 * y;
+    float y1 = t - (t - y), y2 = y - y1;
+    return x2 * y2 - (p - x1 * y1 - x2 * y1 - x1 * y2);
+}
+
+static inline uint32_t straight_carrying(const float *a, const float *b, size_t n, float *out)
+{
+    float s = 0, c = 0;
+    if (n > 4096)
+        return EAR_BAD_LENGTH;
+    for (size_t i = 0; i < n; i++) {
+        if (!straight_element(a[i]) || !straight_element(b[i]))
+            return EAR_OUT_OF_RANGE;
+        float p = a[i] * b[i], q = s + p, z = q - s;
+        c += (s - (q - z)) + (p - z) + lost_by_product(a[i], b[i], p);
+        s = q;
+    }
+    *out = s + c;
     return EAR_OK;
 }
 

@@ -2,10 +2,12 @@
  * The growth function of one channel, as a fitter looks at it: which current
  * step each level of the envelope gets, beside the exact map.
  *
- *   growth [B M T C]         prints it as CSV
- *   growth --svg [B M T C]   draws it
+ *   growth [--top N] [--knee LEVEL STEP] [B M T C]         prints it as CSV
+ *   growth --svg [--top N] [--knee LEVEL STEP] [B M T C]   draws it
  *
- * B and M are envelope levels from 0 to 1, T and C current steps. Build:
+ * B and M are envelope levels from 0 to 1, T and C current steps. N is the
+ * stimulator's highest step, 255 where it is not given. With a knee the map is
+ * bent at LEVEL, where the current is at STEP. Build:
  * cc -Iinclude examples/growth.c build/libearmath.a -lm
  */
 #include <math.h>
@@ -16,27 +18,46 @@
 
 #include "earmath.h"
 
-/* Levels of -60 and -10 dB. */
-static float b = 0.001f, m = 0.316227766f;
-static uint32_t t = 100, c = 200;
+/* Levels of -60 and -10 dB, and of the knee where there is one. */
+static float b = 0.001f, m = 0.316227766f, knee;
+static uint32_t top = 255, t = 100, c = 200, knee_step;
+
+static uint32_t ask(float a, uint32_t *step)
+{
+    return knee > 0 ? ear_loudness_knee(top, b, knee, m, t, knee_step, c, a, step)
+                    : ear_loudness_top(top, b, m, t, c, a, step);
+}
 
 static uint32_t step_at(float a)
 {
     uint32_t step = 0;
-    ear_loudness(b, m, t, c, a, &step);
+    ask(a, &step);
     return step;
-}
-
-static double exact_at(float a)
-{
-    if (a <= b || a >= m)
-        return a <= b ? t : c;
-    return t + (c - t) * log2((double)a / b) / log2((double)m / b);
 }
 
 static double decibels(double a)
 {
     return 20 * log10(a);
+}
+
+static double within(double x, double low, double high)
+{
+    return x < low ? low : x > high ? high : x;
+}
+
+static double straight(double level, float from, uint32_t low, float to, uint32_t high)
+{
+    double part = (level - decibels(from)) / (decibels(to) - decibels(from));
+    return within(low + part * (high - low), low, high);
+}
+
+/* The exact map is straight over levels in dB, on either side of a knee, and flat
+ * outside b to m. */
+static double exact_at_level(double level)
+{
+    if (knee > 0 && level > decibels(knee))
+        return straight(level, knee, knee_step, m, c);
+    return knee > 0 ? straight(level, b, t, knee, knee_step) : straight(level, b, t, m, c);
 }
 
 static float float_of(uint32_t bits)
@@ -75,7 +96,7 @@ static void print_csv(void)
         float ends[2] = {first_of(step), last_of(step)};
         for (int i = 0; i < 2; i++)
             printf("%.5f,%.9g,%u,%.5f\n", decibels(ends[i]), (double)ends[i], (unsigned)step_at(ends[i]),
-                   exact_at(ends[i]));
+                   exact_at_level(decibels(ends[i])));
     }
 }
 
@@ -93,11 +114,6 @@ static double x_of(const struct view *v, double level)
 static double y_of(const struct view *v, double step)
 {
     return v->y + v->height * (v->high - step) / (v->high - v->low);
-}
-
-static double within(double x, double low, double high)
-{
-    return x < low ? low : x > high ? high : x;
 }
 
 static void frame(const struct view *v, const char *fill)
@@ -133,21 +149,16 @@ static void grid(const struct view *v, double levels, double steps)
     }
 }
 
-/* The exact map is straight over levels in dB, and flat outside b to m. */
-static double exact_at_level(double level)
-{
-    double from = decibels(b), to = decibels(m);
-    return within(t + (c - t) * (level - from) / (to - from), t, c);
-}
-
 static void draw_exact(const struct view *v)
 {
-    double from = within(decibels(b), v->left, v->right), to = within(decibels(m), v->left, v->right);
-    double levels[4] = {v->left, from, to, v->right};
-    printf("<path class=\"exact\" d=\"");
-    for (int i = 0; i < 4; i++)
-        printf("%c%.2f %.2f", i == 0 ? 'M' : 'L', x_of(v, levels[i]), y_of(v, exact_at_level(levels[i])));
-    puts("\"/>");
+    float bends[3] = {b, knee > 0 ? knee : m, m};
+    printf("<path class=\"exact\" d=\"M%.2f %.2f", x_of(v, v->left), y_of(v, exact_at_level(v->left)));
+    for (int i = 0; i < 3; i++) {
+        double level = within(decibels(bends[i]), v->left, v->right);
+        if (i < 2 || knee > 0)
+            printf("L%.2f %.2f", x_of(v, level), y_of(v, exact_at_level(level)));
+    }
+    printf("L%.2f %.2f\"/>\n", x_of(v, v->right), y_of(v, exact_at_level(v->right)));
 }
 
 static void draw_steps(const struct view *v)
@@ -179,6 +190,13 @@ static void mark_ends(const struct view *v)
     text(x - 6, bottom - 8, "text-anchor=\"end\" class=\"name\"", "m");
     snprintf(words, sizeof words, "C = %u", (unsigned)c);
     text(v->x + v->width - 8, y_of(v, c) - 8, "text-anchor=\"end\" class=\"name\"", words);
+    if (knee > 0) {
+        x = x_of(v, decibels(knee));
+        line(x, y_of(v, knee_step), x, bottom, "mark");
+        text(x + 6, bottom - 8, "class=\"name\"", "k");
+        snprintf(words, sizeof words, "K = %u", (unsigned)knee_step);
+        text(x - 30, y_of(v, knee_step) - 6, "text-anchor=\"end\" class=\"name\"", words);
+    }
 }
 
 /* A power of ten times 1, 2 or 5, so that some `parts` of them make up `length`. */
@@ -200,11 +218,16 @@ static struct view free_panel(const struct view *whole)
     return panel;
 }
 
-/* Some steps around the middle, so large that each is seen. */
+/* Some steps around the middle, or around the knee, so large that each is seen. */
 static void draw_magnified(const struct view *whole)
 {
     double each = (decibels(m) - decibels(b)) / (c - t), middle = floor((t + c) / 2.0);
     double level = decibels(b) + (middle - t) * each;
+    if (knee > 0) {
+        middle = knee_step;
+        level = decibels(knee);
+        each = fmin((level - decibels(b)) / (knee_step - t), (decibels(m) - level) / (c - knee_step));
+    }
     struct view panel = free_panel(whole);
     struct view v = {level - 3.3 * each, level + 3.3 * each, middle - 3.3, middle + 3.3,
                      panel.x + 42,       panel.y + 14,       panel.width - 54, panel.height - 40};
@@ -223,10 +246,12 @@ static void draw_magnified(const struct view *whole)
 
 static void draw_legend(void)
 {
-    struct view box = {0, 0, 0, 0, 82, 52, 274, 50};
+    const char *words = knee > 0 ? "the step that ear_loudness_knee gives" : "the step that ear_loudness_top gives";
+    int plain = knee == 0 && top == 255;
+    struct view box = {0, 0, 0, 0, 82, 52, plain ? 274 : 312, 50};
     frame(&box, "#fff");
     line(94, 68, 120, 68, "steps");
-    text(128, 72, "", "the step that ear_loudness gives");
+    text(128, 72, "", plain ? "the step that ear_loudness gives" : words);
     line(94, 88, 120, 88, "exact");
     text(128, 92, "", "the exact map");
 }
@@ -240,12 +265,16 @@ static const char head[] =
 
 static void draw_svg(void)
 {
-    char words[120];
+    char words[160];
     double room = (c - t) * 0.06 + 1;
     struct view v = {floor((1.1 * decibels(b) - 2) / 10) * 10, 0, t - room, c + room, 70, 40, 690, 440};
     fputs(head, stdout);
-    snprintf(words, sizeof words, "Growth of the current: b = %.4g (%.1f dB), m = %.4g (%.1f dB), T = %u, C = %u",
-             (double)b, decibels(b), (double)m, decibels(m), (unsigned)t, (unsigned)c);
+    if (knee > 0)
+        snprintf(words, sizeof words, "Growth with a knee: b = %.4g (%.1f dB), k = %.4g (%.1f dB), m = %.4g (%.1f dB)",
+                 (double)b, decibels(b), (double)knee, decibels(knee), (double)m, decibels(m));
+    else
+        snprintf(words, sizeof words, "Growth of the current: b = %.4g (%.1f dB), m = %.4g (%.1f dB), T = %u, C = %u",
+                 (double)b, decibels(b), (double)m, decibels(m), (unsigned)t, (unsigned)c);
     text(v.x, 26, "font-size=\"15\"", words);
     grid(&v, round_part(v.right - v.left, 8), c == t ? 1 : ceil(round_part(v.high - v.low, 8)));
     frame(&v, "none");
@@ -281,16 +310,38 @@ static int read_channel(char **words)
     return read_float(words[0], &b) && read_float(words[1], &m) && read_step(words[2], &t) && read_step(words[3], &c);
 }
 
+/* The options, and after them a whole channel or none. */
+static int read_words(char **words, int *svg)
+{
+    int count = 0;
+    for (; *words != NULL && strncmp(*words, "--", 2) == 0; words++) {
+        if (strcmp(*words, "--svg") == 0)
+            *svg = 1;
+        else if (strcmp(*words, "--top") == 0 && words[1] != NULL && read_step(words[1], &top))
+            words++;
+        else if (strcmp(*words, "--knee") == 0 && words[1] != NULL && words[2] != NULL && read_float(words[1], &knee) &&
+                 knee > 0 && read_step(words[2], &knee_step))
+            words += 2;
+        else
+            return 0;
+    }
+    while (words[count] != NULL)
+        count++;
+    return count == 0 || (count == 4 && read_channel(words));
+}
+
 int main(int count, char **words)
 {
     uint32_t step;
-    int svg = count > 1 && strcmp(words[1], "--svg") == 0, given = count - 1 - svg;
-    if (given != 0 && !(given == 4 && read_channel(words + 1 + svg))) {
-        fprintf(stderr, "usage: %s [--svg] [B M T C], such as 0.001 0.316 100 200\n", words[0]);
+    int svg = 0;
+    if (!read_words(words + (count > 0), &svg)) {
+        fputs("usage: growth [--svg] [--top N] [--knee LEVEL STEP] [B M T C], such as 0.001 0.316 100 200\n", stderr);
         return 2;
     }
-    if (ear_loudness(b, m, t, c, 0.0f, &step) != EAR_OK) {
-        fputs("This channel is refused: 2^-24 <= B, 2 B <= M <= 1 and T <= C <= 255 must hold.\n", stderr);
+    if (ask(0.0f, &step) != EAR_OK) {
+        fprintf(stderr, "This channel is refused: 2^-24 <= B, %s <= 1 and %s <= %u must hold.\n",
+                knee > 0 ? "2 B <= LEVEL, 2 LEVEL <= M" : "2 B <= M", knee > 0 ? "T <= STEP <= C" : "T <= C",
+                (unsigned)(top < 1023 ? top : 1023));
         return 1;
     }
     if (svg)

@@ -78,6 +78,19 @@ uint32_t ear_rsqrt(float x, float *out);
 uint32_t ear_exp2(float x, float *out);
 
 /*
+ * e to the power x.
+ *
+ * Accepts: every x with -87 <= x <= 88.
+ * Result:  within 515 / 2^33 (below 2^-23.99) of the real number e^x,
+ *          relatively. Exactly 1 where x is 0, of either sign. Always a normal
+ *          float.
+ * Order:   never falls as x grows.
+ * Refuses: NaN, both infinities, every x < -87 and every x > 88 with
+ *          EAR_OUT_OF_RANGE; *out stays as it was.
+ */
+uint32_t ear_exp(float x, float *out);
+
+/*
  * The logarithm to base two.
  *
  * Accepts: every finite x >= 2^-126, the normal floats above zero.
@@ -183,6 +196,13 @@ uint32_t ear_softmax2(const float *x, uint64_t nx, float *p, uint64_t np);
 uint32_t ear_softmax2_in_place(float *p, uint64_t n);
 
 /*
+ * Softmax, base e: p[i] is e^x[i] over the sum of e^x[j] for all j. The same promise
+ * as of ear_softmax2, with the same bounds, codes and order. (The least quotient is
+ * about e^-128 or 2^-184.7: below 2^-149 the output is +0, and within one least float.)
+ */
+uint32_t ear_softmax(const float *x, uint64_t nx, float *p, uint64_t np);
+
+/*
  * The loudness map: from the envelope of one channel to a whole current step.
  *
  * The channel: b and m are envelope levels, t and c current steps: up to b the
@@ -226,6 +246,25 @@ uint32_t ear_loudness_top(uint32_t top, float b, float m, uint32_t t, uint32_t c
  */
 uint32_t ear_loudness_knee(uint32_t top, float b, float k, float m, uint32_t t, uint32_t kk, uint32_t c, float a,
                            uint32_t *out);
+
+/*
+ * The dot product as the nearest float: the sum of a[i] * b[i], rounded once.
+ *
+ * Accepts: na = nb = n <= 4,096, every element 0 or from 2^-40 to 2^40 in size.
+ * Result:  the float nearest to the exact sum, ties to even: no finite float is
+ *          nearer. So |*out - exact| <= u * |exact| with u = 2^-24, whatever
+ *          cancels. Where the exact sum is 0 it is +0, and so for n = 0.
+ * Order:   the result depends on the exact sum alone: the same pairs of elements
+ *          in any order give the same bits.
+ * Refuses: with the first of these codes that applies; *out stays as it was.
+ *          EAR_BAD_LENGTH where na and nb differ or are above 4,096;
+ *          EAR_OUT_OF_RANGE where an element is a NaN, an infinity, or neither 0
+ *          nor from 2^-40 to 2^40 in size. Nothing overflows.
+ *
+ * a and b must be valid, aligned pointers to na and nb floats, and *out a float
+ * of neither list. A call takes 856 bytes of stack on a Cortex-M4F.
+ */
+uint32_t ear_dot_nearest(const float *a, uint64_t na, const float *b, uint64_t nb, float *out);
 
 #ifdef __cplusplus
 }

@@ -5,25 +5,32 @@
 
 #include "rows.h"
 
-static const uint32_t *row(const uint32_t rows[16][5], uint32_t m, uint32_t e)
+static const uint32_t *row(const uint32_t rows[32][4], uint32_t m, uint32_t e)
 {
-    return rows[(e % 2 * 8 + m / 1048576) % 16];
+    return rows[m / 524288 % 16 + e % 2 * 16];
+}
+
+static uint32_t upper(uint64_t product)
+{
+    return (uint32_t)(product >> 32);
+}
+
+static uint32_t rest(const uint32_t *t, uint32_t m)
+{
+    uint32_t v = ~(m << 13), y = upper((uint64_t)v * v), p = t[2] + upper((uint64_t)t[3] * v);
+    return upper((uint64_t)t[1] * v + (uint64_t)p * y);
 }
 
 static uint64_t guess_root(uint32_t m, uint32_t e)
 {
     const uint32_t *t = row(root_rows, m, e);
-    uint64_t d = m % 1048576, w = 1048576 - d, y = d * w, q = y / 16384 * (w * w / 1048576);
-    uint64_t low = t[3] * (y * w / 2199023255552) + t[4] * (q / 65536);
-    return ((uint64_t)t[0] * 1073741824 + t[1] * (d * 64) + t[2] * (y / 16384) + low) / 274877906944;
+    return ((t[0] - rest(t, m)) / 128 + 1) / 2;
 }
 
 static uint64_t guess_reciprocal(uint32_t m, uint32_t e)
 {
     const uint32_t *t = row(reciprocal_rows, m, e);
-    uint64_t v = 1048575 - m % 1048576, v2 = v * v, v4 = v2 / 4096 * (v2 / 1048576);
-    uint64_t low = t[3] * (v2 * v / 2199023255552) + t[4] * (v4 / 524288);
-    return ((uint64_t)t[0] * 1073741824 + t[1] * (v * 32) + t[2] * (v2 / 8192) + low) / 137438953472;
+    return ((t[0] + rest(t, m)) / 128 + 1) / 2;
 }
 
 static unsigned steps_root(uint32_t m, uint32_t e)

@@ -26,6 +26,7 @@ enum evenly { OVER_PATTERNS, OVER_VALUES, IN_LISTS };
 
 #define EVERY_NORMAL {"normal x > 0", OVER_PATTERNS, FLT_MIN, FLT_MAX, 0}
 #define EVERY_POWER {"-126 <= x <= 127", OVER_VALUES, -126, 127, 0}
+#define EVERY_EXPONENT {"-87 <= x <= 88", OVER_VALUES, -87, 88, 0}
 #define EVERY_ANGLE {"-8192 <= x <= 8192", OVER_VALUES, -8192, 8192, 0}
 #define AROUND_ZERO {"-1 <= x <= 1", OVER_VALUES, -1, 1, 0}
 #define EVERY_LARGE {"x >= 8192", OVER_PATTERNS, 8192, FLT_MAX, 0}
@@ -38,11 +39,17 @@ enum evenly { OVER_PATTERNS, OVER_VALUES, IN_LISTS };
 #define DOT(LINE, n) \
     LINE(dot_##n, ear_dot, ear_dot(list, length, other, length, &y), "plain_loop", y = plain_loop(list, other, length), LISTS_OF(n))
 
+/* Its nearest float beside a loop that carries its rounding errors along. */
+#define NEAREST(LINE, n) \
+    LINE(nearest_##n, ear_dot_nearest, ear_dot_nearest(list, length, other, length, &y), "carrying_loop", \
+         carrying_loop(list, other, length, &y), LISTS_OF(n))
+
 /* The contests, a line for each: a name, our function and its call, the rival and its call, the inputs. */
 #define CONTESTS(LINE) \
     LINE(square_root, ear_sqrt, ear_sqrt(x, &y), "newlib_sqrtf", y = newlib_sqrtf(x), EVERY_NORMAL) \
     LINE(reciprocal, ear_rsqrt, ear_rsqrt(x, &y), "reciprocal_root", y = reciprocal_root(x), EVERY_NORMAL) \
     LINE(power_of_two, ear_exp2, ear_exp2(x, &y), "exp2f", y = exp2f(x), EVERY_POWER) \
+    LINE(exponential, ear_exp, ear_exp(x, &y), "expf", y = expf(x), EVERY_EXPONENT) \
     LINE(logarithm, ear_log2, ear_log2(x, &y), "log2f", y = log2f(x), EVERY_NORMAL) \
     LINE(sine, ear_sin, ear_sin(x, &y), "sinf", y = sinf(x), EVERY_ANGLE) \
     LINE(small_sine, ear_sin, ear_sin(x, &y), "sinf", y = sinf(x), AROUND_ZERO) \
@@ -53,8 +60,11 @@ enum evenly { OVER_PATTERNS, OVER_VALUES, IN_LISTS };
     LINE(sine_of_pi_x, ear_sinpi, ear_sinpi(x, &y), "sine_of_pi", y = sine_of_pi(x), EVERY_ANGLE) \
     LINE(cosine_of_pi_x, ear_cospi, ear_cospi(x, &y), "cosine_of_pi", y = cosine_of_pi(x), EVERY_ANGLE) \
     DOT(LINE, 16) DOT(LINE, 64) DOT(LINE, 1024) DOT(LINE, 65536) \
+    NEAREST(LINE, 64) NEAREST(LINE, 1024) \
     LINE(softmax, ear_softmax2, ear_softmax2(list, length, out, length), "softmax_in_c", softmax_in_c(list, length, out), \
          LISTS_OF(64)) \
+    LINE(softmax_of_e, ear_softmax, ear_softmax(list, length, out, length), "softmax_of_e_in_c", \
+         softmax_of_e_in_c(list, length, out), LISTS_OF(64)) \
     LINE(loudness_map, ear_loudness, ear_loudness(CHANNEL, x, &step), "map_in_c", map_in_c(CHANNEL, x, &step), BETWEEN) \
     LINE(fitted_map, ear_loudness, ear_loudness(CHANNEL, x, &step), "fitted_in_c", fitted_in_c(x, &step), \
          BETWEEN_FITTED)

@@ -22,9 +22,19 @@ float cosine_of_pi(float x)
     return cosf(PI * x);
 }
 
+uint32_t carrying_loop(const float *a, const float *b, uint32_t n, float *out)
+{
+    return straight_carrying(a, b, n, out);
+}
+
 uint32_t softmax_in_c(const float *x, uint64_t n, float *p)
 {
     return straight_softmax(exp2f, x, n, p);
+}
+
+uint32_t softmax_of_e_in_c(const float *x, uint64_t n, float *p)
+{
+    return straight_softmax(expf, x, n, p);
 }
 
 uint32_t map_in_c(float b, float m, uint32_t t, uint32_t c, float a, uint32_t *out)

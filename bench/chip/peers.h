@@ -9,7 +9,9 @@ float reciprocal_root(float x);
 float sine_of_pi(float x);
 float cosine_of_pi(float x);
 float plain_loop(const float *a, const float *b, uint32_t n);
+uint32_t carrying_loop(const float *a, const float *b, uint32_t n, float *out); /* with the rounding errors carried along */
 uint32_t softmax_in_c(const float *x, uint64_t n, float *p);
+uint32_t softmax_of_e_in_c(const float *x, uint64_t n, float *p);
 uint32_t map_in_c(float b, float m, uint32_t t, uint32_t c, float a, uint32_t *out);
 
 /* The same map with what depends on the channel computed once, by fit_in_c. */

@@ -68,23 +68,40 @@ static uint32_t draw_more(uint32_t *state, uint64_t nx, uint64_t ny)
     return longer ? draw(state) % MORE : 0;
 }
 
-static void ask_dot(const struct asked *f, uint32_t pattern, struct answer *a)
+/* Four ways to draw exponents: the lowest, and how many there are. */
+struct exponents {
+    uint32_t lowest[4], count[4];
+};
+
+static void ask_lists(const struct asked *f, uint32_t pattern, struct answer *a, const struct exponents *e, uint64_t longest)
 {
     static union word x[LONGEST_DRAWN + MORE], y[LONGEST_DRAWN + MORE];
-    /* exponents: all that are finite; or such that sums and products overflow; or products are subnormal; or near 0 */
-    static const uint32_t lowest[] = {0, 187, 58, 110}, count[] = {255, 4, 8, 30};
     uint32_t state = pattern, way = draw(&state);
     uint64_t nx, ny;
-    draw_lengths(&state, 0, 65536, &nx, &ny);
+    draw_lengths(&state, 0, longest, &nx, &ny);
     uint32_t more = draw_more(&state, nx, ny);
     for (uint32_t i = 0; i <= LONGEST_DRAWN + more; i++) {
-        x[i] = drawn_float(&state, lowest[way % 4], count[way % 4]);
-        y[i] = drawn_float(&state, lowest[way % 4], count[way % 4]);
+        x[i] = drawn_float(&state, e->lowest[way % 4], e->count[way % 4]);
+        y[i] = drawn_float(&state, e->lowest[way % 4], e->count[way % 4]);
     }
     if (way % 64 == 63)
         (way & 64 ? x : y)[way / 128 % LONGEST_DRAWN].bits |= 0x7f800000;
     preset(a, 1, pattern);
     a->code = f->call.dot(&x[0].value, nx + more, &y[0].value, ny + more, &a->after[GUARD].value);
+}
+
+static void ask_dot(const struct asked *f, uint32_t pattern, struct answer *a)
+{
+    /* all that are finite; or such that sums and products overflow; or products are subnormal; or near 0 */
+    static const struct exponents e = {{0, 187, 58, 110}, {255, 4, 8, 30}};
+    ask_lists(f, pattern, a, &e, 65536);
+}
+
+static void ask_nearest(const struct asked *f, uint32_t pattern, struct answer *a)
+{
+    /* all that are accepted; one more on either side; sizes near each other; one exponent */
+    static const struct exponents e = {{87, 86, 120, 127}, {80, 82, 8, 1}};
+    ask_lists(f, pattern, a, &e, 4096);
 }
 
 static void ask_softmax(const struct asked *f, uint32_t pattern, struct answer *a)
@@ -153,6 +170,7 @@ const struct asked every_function[] = {
     SINGLE(ear_sqrt),
     SINGLE(ear_rsqrt),
     SINGLE(ear_exp2),
+    SINGLE(ear_exp),
     SINGLE(ear_log2),
     SINGLE(ear_sinpi),
     SINGLE(ear_cospi),
@@ -161,7 +179,11 @@ const struct asked every_function[] = {
     /* name, how it is asked, call, codes, its share of the patterns, whether it rounds */
     {"ear_dot", ask_dot, {.dot = ear_dot},
      1 << EAR_OK | 1 << EAR_OUT_OF_RANGE | 1 << EAR_BAD_LENGTH | 1 << EAR_OVERFLOW, 16, true},
+    {"ear_dot_nearest", ask_nearest, {.dot = ear_dot_nearest},
+     1 << EAR_OK | 1 << EAR_OUT_OF_RANGE | 1 << EAR_BAD_LENGTH, 16, false},
     {"ear_softmax2", ask_softmax, {.softmax = ear_softmax2},
+     1 << EAR_OK | 1 << EAR_OUT_OF_RANGE | 1 << EAR_BAD_LENGTH, 16, false},
+    {"ear_softmax", ask_softmax, {.softmax = ear_softmax},
      1 << EAR_OK | 1 << EAR_OUT_OF_RANGE | 1 << EAR_BAD_LENGTH, 16, false},
     {"ear_loudness", ask_map, {.map = ear_loudness}, 1 << EAR_OK | 1 << EAR_OUT_OF_RANGE | 1 << EAR_BAD_CHANNEL, 1, false},
 };

@@ -15,6 +15,7 @@
 
 float newlib_sqrtf(float x);
 float newlib_powf(float x, float y);
+float newlib_expf(float x);
 float newlib_log2f(float x);
 float newlib_sinf(float x);
 float newlib_cosf(float x);
@@ -34,6 +35,8 @@ OTHER(glibc_reciprocal, 0x1p-149f, FLT_MAX, 1 / sqrtf(x))
 OTHER(reciprocal_to_four, 1.0f, 0x1.fffffep1f, 1 / sqrtf(x))
 OTHER(newlib_power, -126.0f, 127.0f, newlib_powf(2.0f, x))
 OTHER(glibc_power, -126.0f, 127.0f, exp2f(x))
+OTHER(newlib_exponential, -87.0f, 88.0f, newlib_expf(x))
+OTHER(glibc_exponential, -87.0f, 88.0f, expf(x))
 OTHER(newlib_logarithm, 0x1p-126f, FLT_MAX, newlib_log2f(x))
 OTHER(glibc_logarithm, 0x1p-126f, FLT_MAX, log2f(x))
 OTHER(newlib_sine, -FLT_MAX, FLT_MAX, newlib_sinf(x))
@@ -49,6 +52,8 @@ static const struct function functions[] = {
     {"1/sqrtf from 1 up to 4", reciprocal_to_four, 1.0f, 0x1.fffffep1f, reciprocal_root, nearest_reciprocal_root, 0, FALLS, NULL},
     {"newlib powf", newlib_power, -126.0f, 127.0f, exp2, near_power, 515 * 0x1p-33, RISES, NULL},
     {"glibc exp2f", glibc_power, -126.0f, 127.0f, exp2, near_power, 515 * 0x1p-33, RISES, NULL},
+    {"newlib expf", newlib_exponential, -87.0f, 88.0f, exp, near_exponential, 515 * 0x1p-33, RISES, NULL},
+    {"glibc expf", glibc_exponential, -87.0f, 88.0f, exp, near_exponential, 515 * 0x1p-33, RISES, NULL},
     {"newlib log2f", newlib_logarithm, 0x1p-126f, FLT_MAX, binary_logarithm, near_logarithm, 33 * 0x1p-29, RISES, NULL},
     {"glibc log2f", glibc_logarithm, 0x1p-126f, FLT_MAX, binary_logarithm, near_logarithm, 33 * 0x1p-29, RISES, NULL},
     {"newlib sinf", newlib_sine, -FLT_MAX, FLT_MAX, sin, near_wave, 17 * 0x1p-29, ANY_ORDER, NULL},

@@ -92,6 +92,8 @@ static void document_01(void)
           "the root refuses -1 and the negative next to zero, the reciprocal root both zeros");
     const struct function *power = line_of(ear_exp2);
     group(refused_at(power, 0x42ff0000) && refused_at(power, 0xc2fd0000), "2^x refuses 127.5 and -126.5");
+    const struct function *exponential = line_of(ear_exp);
+    group(refused_at(exponential, 0x42b00001) && refused_at(exponential, 0xc2ae0001), "e^x refuses the floats next to 88 and -87");
     const struct function *logarithm = line_of(ear_log2);
     good = refused_at(logarithm, 0x007fffff) && refused_at(logarithm, 0x00000000) && refused_at(logarithm, 0x80000000);
     group(good && refused_at(logarithm, 0xbf800000), "log2 refuses the greatest subnormal, both zeros and -1");

@@ -49,6 +49,24 @@ static void powers(void)
     group(edges == EDGE_POWERS, "ear_exp2: %d of %d powers at and next to whole numbers", edges, EDGE_POWERS);
 }
 
+/* e^x at both zeros and next to them, at and next to both ends of the range, and at the float next to ln 2: the nearest floats. */
+static const uint32_t exponentials[][2] = {
+    {0x00000000, 0x3f800000}, {0x80000000, 0x3f800000}, {0x00000001, 0x3f800000}, {0x80000001, 0x3f800000},
+    {0x3f800000, 0x402df854}, {0xbf800000, 0x3ebc5ab2}, {0x42b00000, 0x7ef882b7}, {0xc2ae0000, 0x00b33687},
+    {0x3f317218, 0x40000000}, {0xbf317218, 0x3f000000}, {0x34000000, 0x3f800001}, {0xb3800000, 0x3f7fffff},
+    {0x3f000000, 0x3fd3094c}, {0x41200000, 0x46ac14ee}, {0x42afffff, 0x7ef8823b}, {0xc2adffff, 0x00b336e0},
+};
+
+enum { EXPONENTIALS = sizeof exponentials / sizeof exponentials[0] };
+
+static void natural_powers(void)
+{
+    int right = 0;
+    for (int i = 0; i < EXPONENTIALS; i++)
+        right += gives("ear_exp", ear_exp, exponentials[i][0], exponentials[i][1]);
+    group(right == EXPONENTIALS, "ear_exp: %d of %d powers at the ends, at 0 and next to it", right, EXPONENTIALS);
+}
+
 /* The floats next to 1, to a half and to the cut between two pieces. */
 static const uint32_t edge_logarithms[][2] = {
     {0x3f7fffff, 0xb3b8aa3c}, {0x3f800001, 0x3438aa3a}, {0x3effffff, 0xbf800001}, {0x3f000001, 0xbf7ffffd},
@@ -137,14 +155,19 @@ static void softmax(void)
 {
     static const float inputs[4] = {0, 1, 2, -3.5f}, equal[3] = {7, 7, 7};
     static const double digits[4] = {0.141075791979, 0.282151583958, 0.564303167916, 0.0124694561462};
-    float p[4] = {0}, q[3] = {0};
-    int near = 0, thirds = 0;
+    static const double natural[4] = {0.0897864717905, 0.244064934709, 0.663437276985, 0.0027113165147};
+    float p[4] = {0}, q[3] = {0}, e[4] = {0};
+    int near = 0, thirds = 0, near_e = 0;
     uint32_t code = ear_softmax2(inputs, 4, p, 4), code_of_equal = ear_softmax2(equal, 3, q, 3);
+    uint32_t code_of_e = ear_softmax(inputs, 4, e, 4);
+    for (int i = 0; i < 4; i++)
+        near_e += code_of_e == EAR_OK && fabs(e[i] - natural[i]) <= 273 * 0x1p-32 * natural[i] + 1e-12;
     for (int i = 0; i < 4; i++)
         near += code == EAR_OK && fabs(p[i] - digits[i]) <= 273 * 0x1p-32 * digits[i] + 1e-12;
     for (int i = 0; i < 3; i++)
         thirds += code_of_equal == EAR_OK && bits_of(q[i]) == 0x3eaaaaab;
     group(near == 4, "ear_softmax2: %d of 4 values of document 01, section 5, within 273 * 2^-32", near);
+    group(near_e == 4, "ear_softmax: %d of 4 values of the same inputs, base e, within 273 * 2^-32", near_e);
     group(thirds == 3, "ear_softmax2: %d of 3 equal inputs get the float next to a third", thirds);
 }
 
@@ -152,6 +175,7 @@ int main(void)
 {
     roots_of_section_8();
     powers();
+    natural_powers();
     logarithms();
     waves();
     softmax();

@@ -84,6 +84,29 @@ static uint32_t accepts_127_and_a_half(float x, float *out)
     return ear_exp2(x > 127 && x < 128 ? 127 : x, out);
 }
 
+/* 2^(x log2 e), and the product rounded to a float: off by up to 2^-18, but exact at 0 and in order. */
+static uint32_t product_as_a_float(float x, float *out)
+{
+    uint32_t code = ear_exp(x, out);
+    if (code == EAR_OK)
+        *out = exp2f(x * 1.44269502f);
+    return code;
+}
+
+/* e cut off after 24 digits. */
+static uint32_t another_base(float x, float *out)
+{
+    uint32_t code = ear_exp(x, out);
+    if (code == EAR_OK)
+        *out = (float)pow(2.71828175f, x);
+    return code;
+}
+
+static uint32_t accepts_88_and_a_half(float x, float *out)
+{
+    return ear_exp(x > 88 && x < 89 ? 88 : x, out);
+}
+
 static uint32_t minus_zero_at_one(float x, float *out)
 {
     uint32_t code = ear_log2(x, out);
@@ -223,6 +246,9 @@ static const struct wrong {
     {"a 2^x whose pieces do not meet", pieces_that_do_not_meet, ear_exp2, 0x3f800000, OUT_OF_ORDER},
     {"a 2^x that cuts off instead of rounding", power_cut_off, ear_exp2, 0x3f800001, WRONG_VALUE},
     {"a 2^x that accepts 127.5", accepts_127_and_a_half, ear_exp2, 0x42ff0000, WRONG_CODE},
+    {"an e^x whose x log2 e is a float", product_as_a_float, ear_exp, 0x42af0001, WRONG_VALUE},
+    {"an e^x with e as one float", another_base, ear_exp, 0x42af0000, WRONG_VALUE},
+    {"an e^x that accepts 88.5", accepts_88_and_a_half, ear_exp, 0x42b10000, WRONG_CODE},
     {"a log2 that is -0 at 1", minus_zero_at_one, ear_log2, 0x3f800000, WRONG_VALUE},
     {"a log2 that is cut off next to 1", logarithm_cut_off, ear_log2, 0x3f800001, WRONG_VALUE},
     {"a log2 with 2^-22 added", logarithm_with_a_constant, ear_log2, 0x3f7fffff, WRONG_VALUE},

@@ -107,6 +107,11 @@ bool near_power(const struct function *f, float x, float result)
     return within_relative(f, x, result);
 }
 
+bool near_exponential(const struct function *f, float x, float result)
+{
+    return x == 0 ? result == 1 : within_relative(f, x, result);
+}
+
 bool near_logarithm(const struct function *f, float x, float result)
 {
     int exponent;

@@ -32,6 +32,7 @@ struct function {
 bool nearest_root(const struct function *f, float x, float result);
 bool nearest_reciprocal_root(const struct function *f, float x, float result);
 bool near_power(const struct function *f, float x, float result); /* exact at whole x */
+bool near_exponential(const struct function *f, float x, float result); /* exactly 1 at 0 */
 bool near_logarithm(const struct function *f, float x, float result); /* relatively; exact at powers of two, +0 at 1 */
 bool near_wave(const struct function *f, float x, float result); /* and from -1 to 1 */
 bool near_wave_of_pi(const struct function *f, float x, float result); /* exact where 2x is whole, 0 is +0 */

@@ -1,6 +1,7 @@
 /*
  * Softmax against exact quotients: codes, the untouched output, the bound, order
- * and the sum; then wrong programs, which the same judgement must reject.
+ * and the sum; then wrong programs, which the same judgement must reject. All of
+ * it for base two, and again for base e.
  */
 #include <inttypes.h>
 #include <math.h>
@@ -10,6 +11,27 @@
 #include "judge.h"
 #include "report.h"
 #include "softmaxes.h"
+
+/* What differs between the bases: the functions, what section 5's example begins
+ * with, its nearest floats, the outputs of -64 beside one 64 and among 64s, and
+ * what has a power just too small to change a float sum beside that of 20. */
+static const struct base {
+    const char *name;
+    softmax call;
+    float (*power)(float x);
+    const char *begins[4];
+    uint32_t patterns[4];
+    float far, farther, faint;
+} bases[] = {
+    {"ear_softmax2", ear_softmax2, exp2f,
+     {"0.141075791979", "0.282151583958", "0.564303167916", "0.0124694561462"},
+     {0x3e10762c, 0x3e90762c, 0x3f10762c, 0x3c4c4cb1}, 0x1p-128f - 0x1p-149f, 2050 * 0x1p-149f, -4.001f},
+    {"ear_softmax", ear_softmax, expf,
+     {"0.0897864717905", "0.244064934709", "0.663437276985", "0.0027113165147"},
+     {0x3db7e1f8, 0x3e79ec29, 0x3f29d706, 0x3b31b058}, 0, 0, 2.77f},
+};
+
+static const struct base *base;
 
 static float x[LONGEST + 1], p[LONGEST + 1], q[LONGEST + 1];
 
@@ -72,10 +94,10 @@ static struct softmax_tally random_lists(softmax call, const struct kind *k, int
 static void of_random_lists(void)
 {
     for (int i = 0; i < KINDS; i++) {
-        struct softmax_tally t = random_lists(ear_softmax2, &kinds[i], LISTS, &proved);
+        struct softmax_tally t = random_lists(base->call, &kinds[i], LISTS, &proved);
         group(softmax_faults_in(&t) == 0,
-              "%s: %" PRIu64 " outputs, worst rel 2^%.3f, below 2^-125 %.3f least floats, sum within 2^%.2f of 1",
-              kinds[i].words, t.outputs, log2(t.worst), t.worst_units, log2(t.worst_whole));
+              "%s, %s: %" PRIu64 " outputs, worst rel 2^%.3f, below 2^-125 %.3f least floats, sum within 2^%.2f of 1",
+              base->name, kinds[i].words, t.outputs, log2(t.worst), t.worst_units, log2(t.worst_whole));
     }
 }
 
@@ -83,7 +105,7 @@ static void of_random_lists(void)
 static bool says(uint64_t nx, uint64_t np, uint32_t code)
 {
     struct softmax_tally t = {0};
-    judge_softmax(&t, ear_softmax2, x, nx, np, &proved);
+    judge_softmax(&t, base->call, x, nx, np, &proved);
     return softmax_faults_in(&t) == 0 && t.codes[code] == 1;
 }
 
@@ -97,7 +119,7 @@ static void all(size_t n, float value)
 static bool equal_share(size_t n, float value)
 {
     all(n, value);
-    bool good = says(n, n, EAR_OK) && ear_softmax2(x, n, p, n) == EAR_OK;
+    bool good = says(n, n, EAR_OK) && base->call(x, n, p, n) == EAR_OK;
     for (size_t i = 0; i < n; i++)
         good &= bits_of(p[i]) == bits_of(1 / (float)n);
     return good;
@@ -111,25 +133,23 @@ static void of_equal_inputs(void)
     for (size_t i = 0; i < sizeof values / sizeof values[0]; i++)
         for (size_t j = 0; j < sizeof lengths / sizeof lengths[0]; j++)
             good &= equal_share(lengths[j], values[i]);
-    group(good, "n equal inputs, n = 1 (exactly 1), 2, 3 (3eaaaaab each) to 1,024: the float nearest to 1 / n");
+    group(good, "%s: n equal inputs, n = 1 (exactly 1), 2, 3 (3eaaaaab each) to 1,024: the float nearest to 1 / n", base->name);
 }
 
 /* Document 01, section 5. */
 static void of_document(void)
 {
-    static const char *const begins[] = {"0.141075791979", "0.282151583958", "0.564303167916", "0.0124694561462"};
-    static const uint32_t patterns[] = {0x3e10762c, 0x3e90762c, 0x3f10762c, 0x3c4c4cb1};
     bool digits = true, floats = true;
     memcpy(x, (float[]){0, 1, 2, -3.5f}, 4 * sizeof x[0]);
-    floats &= says(4, 4, EAR_OK) && ear_softmax2(x, 4, p, 4) == EAR_OK;
+    floats &= says(4, 4, EAR_OK) && base->call(x, 4, p, 4) == EAR_OK;
     for (size_t i = 0; i < 4; i++) {
         char text[40];
         quotient_digits(text, sizeof text, x, 4, i, 12);
-        digits &= strncmp(text, begins[i], strlen(begins[i])) == 0;
-        floats &= bits_of(p[i]) == patterns[i];
+        digits &= strncmp(text, base->begins[i], strlen(base->begins[i])) == 0;
+        floats &= bits_of(p[i]) == base->patterns[i];
     }
-    group(digits, "section 5's example: the exact quotients begin as document 01 says");
-    group(floats, "and the outputs are the floats nearest to them, 3e10762c 3e90762c 3f10762c 3c4c4cb1");
+    group(digits, "%s: section 5's inputs, the exact quotients begin with %s", base->name, base->begins[0]);
+    group(floats, "%s: and the outputs are the floats nearest to them", base->name);
 }
 
 static void of_extremes(void)
@@ -138,15 +158,15 @@ static void of_extremes(void)
     for (size_t place = 0; place < LONGEST; place += 341) {
         all(LONGEST, -64);
         x[place] = 64;
-        good &= says(LONGEST, LONGEST, EAR_OK) && ear_softmax2(x, LONGEST, p, LONGEST) == EAR_OK;
+        good &= says(LONGEST, LONGEST, EAR_OK) && base->call(x, LONGEST, p, LONGEST) == EAR_OK;
         for (size_t i = 0; i < LONGEST; i++)
-            good &= p[i] == (i == place ? 1 : 0x1p-128f - 0x1p-149f);
+            good &= p[i] == (i == place ? 1 : base->far);
     }
-    group(good, "1,024 elements, all at -64 but one at 64: 1, and 2^-128 cut off by one least float");
+    group(good, "%s: 1,024 elements, all at -64 but one at 64: 1, and %g", base->name, base->far);
     all(LONGEST, 64);
     x[7] = -64;
-    good = says(LONGEST, LONGEST, EAR_OK) && ear_softmax2(x, LONGEST, p, LONGEST) == EAR_OK;
-    group(good && p[7] == 2050 * 0x1p-149f, "all at 64 but one at -64: 2^-128 / 1,023 for it, cut off to 2,050 least floats");
+    good = says(LONGEST, LONGEST, EAR_OK) && base->call(x, LONGEST, p, LONGEST) == EAR_OK;
+    group(good && p[7] == base->farther, "%s: all at 64 but one at -64: %g for it", base->name, base->farther);
 }
 
 /* The outputs of a list in another order are the outputs in that order. */
@@ -156,7 +176,7 @@ static void of_permutations(void)
     for (int i = 0; i < 400; i++) {
         size_t n = i % 20 == 0 ? LONGEST : 2 + draw() % 60, places[LONGEST];
         fill(&kinds[i % KINDS], n);
-        ear_softmax2(x, n, p, n);
+        base->call(x, n, p, n);
         for (size_t j = 0; j < n; j++)
             places[j] = j;
         for (size_t j = n - 1; j > 0; j--) {
@@ -167,11 +187,11 @@ static void of_permutations(void)
         float shuffled[LONGEST];
         for (size_t j = 0; j < n; j++)
             shuffled[j] = x[places[j]];
-        ear_softmax2(shuffled, n, q, n);
+        base->call(shuffled, n, q, n);
         for (size_t j = 0; j < n; j++)
             good &= bits_of(q[j]) == bits_of(p[places[j]]);
     }
-    group(good, "a permuted list gets the permuted outputs, bit for bit");
+    group(good, "%s: a permuted list gets the permuted outputs, bit for bit", base->name);
 }
 
 static void of_lengths(void)
@@ -185,7 +205,8 @@ static void of_lengths(void)
     good &= says(LONGEST, LONGEST + 1, EAR_BAD_LENGTH) && says(LONGEST, LONGEST - 1, EAR_BAD_LENGTH);
     x[0] = NAN;
     good &= says(1, 2, EAR_BAD_LENGTH) && says(LONGEST + 1, LONGEST + 1, EAR_BAD_LENGTH);
-    group(good, "different lengths, 0 and 1,025 are refused with code 2, before a NaN is; 1 and 1,024 are accepted");
+    group(good, "%s: different lengths, 0 and 1,025 are refused with code 2, before a NaN is; 1 and 1,024 are accepted",
+          base->name);
 }
 
 static void of_elements(void)
@@ -202,18 +223,20 @@ static void of_elements(void)
                 x[place] = float_of(bad[i]);
                 good &= says(n, n, EAR_OUT_OF_RANGE);
             }
-    group(good, "a NaN, an infinity, the floats next to 64 and -64 at any place have code 1, and nothing is written");
+    group(good, "%s: a NaN, an infinity, the floats next to 64 and -64 at any place have code 1, and nothing is written",
+          base->name);
     fill(&kinds[2], LONGEST);
     x[LONGEST - 1] = NAN;
     bool kept = says(LONGEST, LONGEST, EAR_OUT_OF_RANGE);
     x[LONGEST - 1] = 64;
-    group(kept && says(LONGEST, LONGEST, EAR_OK), "a NaN at the end of 1,024 leaves all outputs as they were");
+    group(kept && says(LONGEST, LONGEST, EAR_OK), "%s: a NaN at the end of 1,024 leaves all outputs as they were",
+          base->name);
 }
 
 /* ---- wrong programs */
 static uint32_t last_takes_the_rest(const float *from, uint64_t n, float *to, uint64_t m)
 {
-    uint32_t code = ear_softmax2(from, n, to, m);
+    uint32_t code = base->call(from, n, to, m);
     float others = 0;
     for (size_t i = 0; code == EAR_OK && i + 1 < n; i++)
         others += to[i];
@@ -225,7 +248,7 @@ static uint32_t last_takes_the_rest(const float *from, uint64_t n, float *to, ui
 /* With a sum that leaves out the last term. */
 static uint32_t leaves_out_the_last(const float *from, uint64_t n, float *to, uint64_t m)
 {
-    uint32_t code = ear_softmax2(from, n, to, m);
+    uint32_t code = base->call(from, n, to, m);
     for (size_t i = 0; code == EAR_OK && i < n && n > 1; i++)
         to[i] /= 1 - to[n - 1];
     return code;
@@ -234,8 +257,8 @@ static uint32_t leaves_out_the_last(const float *from, uint64_t n, float *to, ui
 static uint32_t writes_as_it_judges(const float *from, uint64_t n, float *to, uint64_t m)
 {
     for (size_t i = 0; i < n && i < m && fabsf(from[i]) <= 64; i++)
-        to[i] = exp2f(from[i]);
-    return ear_softmax2(from, n, to, m);
+        to[i] = base->power(from[i]);
+    return base->call(from, n, to, m);
 }
 
 static uint32_t turned(const float *from, uint64_t n, float *to, uint64_t m)
@@ -243,13 +266,13 @@ static uint32_t turned(const float *from, uint64_t n, float *to, uint64_t m)
     float opposite[LONGEST];
     for (size_t i = 0; i < n && i < LONGEST; i++)
         opposite[i] = -from[i];
-    return ear_softmax2(n > LONGEST ? from : opposite, n, to, m);
+    return base->call(n > LONGEST ? from : opposite, n, to, m);
 }
 
 /* Every second output one float larger. */
 static uint32_t by_place(const float *from, uint64_t n, float *to, uint64_t m)
 {
-    uint32_t code = ear_softmax2(from, n, to, m);
+    uint32_t code = base->call(from, n, to, m);
     for (size_t i = 0; code == EAR_OK && i + 1 < n; i += 2)
         to[i] = nextafterf(to[i], 2);
     return code;
@@ -260,17 +283,17 @@ static uint32_t accepts_65(const float *from, uint64_t n, float *to, uint64_t m)
     float cut[LONGEST];
     for (size_t i = 0; i < n && i < LONGEST; i++)
         cut[i] = from[i] > 64 && from[i] < 65 ? 64 : from[i];
-    return ear_softmax2(n > LONGEST ? from : cut, n, to, m);
+    return base->call(n > LONGEST ? from : cut, n, to, m);
 }
 
-/* Straightforward C: a float sum of exp2f, by one of two functions, and one division each. */
+/* Straightforward C: a float sum of exp2f or expf, by one of two functions, and one division each. */
 static uint32_t straightforward(const float *from, uint64_t n, float *to, uint64_t m, float (*sum_of)(const float *, size_t))
 {
-    uint32_t code = ear_softmax2(from, n, to, m);
+    uint32_t code = base->call(from, n, to, m);
     if (code != EAR_OK)
         return code;
     for (size_t i = 0; i < n; i++)
-        to[i] = exp2f(from[i]);
+        to[i] = base->power(from[i]);
     float sum = sum_of(to, n);
     for (size_t i = 0; i < n; i++)
         to[i] /= sum;
@@ -314,7 +337,7 @@ static const struct wrong {
     {"one of the opposites", turned, SOFTMAX_ORDER},
     {"one that favours every second place", by_place, SOFTMAX_EQUAL},
     {"one that takes 64.5 for 64", accepts_65, SOFTMAX_CODE},
-    {"straightforward C on exp2f", in_turn, SOFTMAX_NEAR},
+    {"straightforward C on exp2f or expf", in_turn, SOFTMAX_NEAR},
 };
 
 enum { WRONGS = sizeof wrongs / sizeof wrongs[0], TRIED = 200 };
@@ -329,7 +352,7 @@ static void reject(const struct wrong *w)
     }
     memcpy(x, (float[]){0, 1, 64.5f}, 3 * sizeof x[0]);
     judge_softmax(&t, w->call, x, 3, 3, &proved);
-    group(t.seen[w->fault] > 0, "%s: rejected %" PRIu64 " times in %" PRIu64 " lists (%s)", w->what, t.seen[w->fault],
+    group(t.seen[w->fault] > 0, "%s: %s: rejected %" PRIu64 " times in %" PRIu64 " lists (%s)", base->name, w->what, t.seen[w->fault],
           t.calls, softmax_fault_names[w->fault]);
 }
 
@@ -342,8 +365,8 @@ static void of_section_9(void)
     last_takes_the_rest(x, 3, p, 3);
     group(t.seen[SOFTMAX_EQUAL] > 0 && t.seen[SOFTMAX_WHOLE] == 0 && bits_of(p[0]) == 0x3eaaaaab &&
               bits_of(p[2]) == 0x3eaaaaaa,
-          "section 9, 4: of three equal inputs the last gets %08" PRIx32 ", the others %08" PRIx32 ": rejected",
-          bits_of(p[2]), bits_of(p[0]));
+          "%s: section 9, 4: of three equal inputs the last gets %08" PRIx32 ", the others %08" PRIx32 ": rejected",
+          base->name, bits_of(p[2]), bits_of(p[0]));
 }
 
 /* Straightforward C by what is asked: over all kinds, and over a list whose small terms a sum in turn loses. */
@@ -352,7 +375,7 @@ static struct softmax_tally judged_as_asked(softmax call)
     struct softmax_tally t = {0};
     for (int i = 0; i < KINDS; i++)
         judge_lists(&t, call, &kinds[i], TRIED, &asked);
-    all(LONGEST, -4.001f);
+    all(LONGEST, base->faint);
     x[0] = 20;
     judge_softmax(&t, call, x, LONGEST, LONGEST, &asked);
     return t;
@@ -364,15 +387,14 @@ static void the_limits_are_not_too_tight(void)
 {
     struct softmax_tally pairs = judged_as_asked(in_pairs), turn = judged_as_asked(in_turn);
     group(softmax_faults_in(&pairs) == 0,
-          "straightforward C with a sum in pairs keeps what is asked, rel 2^-17 and 2^-20: worst 2^%.2f and 2^%.2f",
-          log2(pairs.worst), log2(pairs.worst_whole));
+          "%s: straightforward C with a sum in pairs keeps what is asked, rel 2^-17 and 2^-20: worst 2^%.2f and 2^%.2f",
+          base->name, log2(pairs.worst), log2(pairs.worst_whole));
     group(turn.seen[SOFTMAX_NEAR] > 0 && turn.seen[SOFTMAX_WHOLE] > 0,
-          "and with a sum in turn it does not: worst 2^%.2f and 2^%.2f", log2(turn.worst), log2(turn.worst_whole));
+          "%s: and with a sum in turn it does not: worst 2^%.2f and 2^%.2f", base->name, log2(turn.worst), log2(turn.worst_whole));
 }
 
-int main(void)
+static void all_of_it(void)
 {
-    open_softmaxes();
     of_document();
     of_equal_inputs();
     of_extremes();
@@ -384,6 +406,29 @@ int main(void)
         reject(&wrongs[i]);
     of_section_9();
     the_limits_are_not_too_tight();
+}
+
+/* One function in the place of the other. */
+static uint32_t of_the_other_base(const float *from, uint64_t n, float *to, uint64_t m)
+{
+    return (base == &bases[0] ? bases[1] : bases[0]).call(from, n, to, m);
+}
+
+static void bases_are_told_apart(void)
+{
+    struct softmax_tally t = random_lists(of_the_other_base, &kinds[1], TRIED, &proved);
+    group(t.seen[SOFTMAX_NEAR] > 0, "%s: the other base is rejected %" PRIu64 " times", base->name, t.seen[SOFTMAX_NEAR]);
+}
+
+int main(void)
+{
+    open_softmaxes();
+    for (base = bases; base < bases + 2; base++) {
+        use_base(base == &bases[1]);
+        state = 1; /* both see the same lists */
+        all_of_it();
+        bases_are_told_apart();
+    }
     close_softmaxes();
     return verdict();
 }

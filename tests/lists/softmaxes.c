@@ -33,6 +33,13 @@ static struct between {
 
 static mpfr_t sum, gap;
 
+static int (*power)(mpfr_t to, const mpfr_t from, mpfr_rnd_t way) = mpfr_exp2;
+
+void use_base(bool natural)
+{
+    power = natural ? mpfr_exp : mpfr_exp2;
+}
+
 static void open_between(struct between *x)
 {
     mpfr_init2(x->low, PRECISION);
@@ -73,7 +80,7 @@ static void enclose(const float *x, size_t n)
     mpfr_set_ui(total.high, 0, MPFR_RNDU);
     for (size_t i = 0; i < n; i++) {
         mpfr_set_flt(gap, x[i], MPFR_RNDN);
-        bool exact = mpfr_exp2(powers[i].low, gap, MPFR_RNDD) == 0;
+        bool exact = power(powers[i].low, gap, MPFR_RNDD) == 0;
         mpfr_set(powers[i].high, powers[i].low, MPFR_RNDU);
         if (!exact)
             mpfr_nextabove(powers[i].high);

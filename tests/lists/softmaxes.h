@@ -46,6 +46,9 @@ struct softmax_tally {
     double worst_units; /* error where it is below that, in least floats */
 };
 
+/* The base of all powers from now on: 2, or e. */
+void use_base(bool natural);
+
 void open_softmaxes(void);
 void close_softmaxes(void);
 

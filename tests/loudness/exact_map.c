@@ -3,10 +3,12 @@
 /* Bits of each number here; a result is then enclosed within 2^-70. */
 enum { PRECISION = 96 };
 
+uint32_t highest_step = 255;
+
 bool fits(struct channel channel)
 {
     float b = channel.b, m = channel.m;
-    return b >= 0x1p-24f && 2 * b <= m && m <= 1 && channel.t <= channel.c && channel.c <= 255;
+    return b >= 0x1p-24f && 2 * b <= m && m <= 1 && channel.t <= channel.c && channel.c <= highest_step;
 }
 
 static void open_between(struct between *x)

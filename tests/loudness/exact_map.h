@@ -27,6 +27,9 @@ struct exact_map {
     struct between value;       /* room for work */
 };
 
+/* The highest step of the stimulator whose channels are judged: 255, unless a test says another. */
+extern uint32_t highest_step;
+
 /* Whether a channel keeps its conditions. Nothing rounds here: twice a float is
  * a float, or infinite and then above m. */
 bool fits(struct channel channel);

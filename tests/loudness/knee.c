@@ -1,8 +1,10 @@
 /*
  * The map with a knee: on either side of it the straight map of that segment, the
  * ends and the knee exact, never falling over a spread of all floats from 0 to 1;
- * and what is refused, each condition alone.
+ * what is refused, each condition alone; and channels without a knee, which map as
+ * they did before there was one.
  */
+#include <inttypes.h>
 #include <math.h>
 #include <stddef.h>
 
@@ -79,8 +81,35 @@ static void refusals(void)
     group(good == COUNT(refused), "ear_loudness_knee: %d of %d refusals, each with its code and the place kept", good, (int)COUNT(refused));
 }
 
+/* What ear_loudness answered before there was a knee, as one number: channels and
+ * envelope values drawn, one in four of any pattern. */
+enum { DRAWN = 1000000 };
+static const uint64_t answers_before = 0x4cf96668231b1710;
+
+static uint32_t state = 2463534242;
+
+static uint32_t draw(void)
+{
+    state ^= state << 13;
+    state ^= state >> 17;
+    return state ^= state << 5;
+}
+
+static void old_channels(void)
+{
+    uint64_t sum = 0;
+    for (int i = 0; i < DRAWN; i++) {
+        uint32_t b = 0x33800000 + draw() % 0x0b800000, m = b + 0x00800000 + draw() % (0x3f800000 - b), step = KEPT;
+        uint32_t t = draw() % 130, c = draw() % 260, a = i % 4 ? draw() % 0x3f800002 : draw();
+        uint32_t code = ear_loudness(float_of(b), float_of(m), t, c, float_of(a), &step);
+        sum = (sum ^ code ^ (uint64_t)step << 3) * 0x9e3779b97f4a7c15;
+    }
+    group(sum == answers_before, "ear_loudness: %d answers as before there was a knee, %016" PRIx64, DRAWN, sum);
+}
+
 int main(void)
 {
+    old_channels();
     for (size_t i = 0; i < COUNT(bent_channels); i++)
         segments(bent_channels[i]);
     refusals();

@@ -22,11 +22,17 @@ const SIN: u32 = 7;
 
 const COS: u32 = 8;
 
+const EXP: u32 = 9;
+
 const DOT: u32 = 20;
 
 const SOFTMAX2: u32 = 21;
 
 const LOUDNESS: u32 = 22;
+
+const DOT_NEAREST: u32 = 23;
+
+const SOFTMAX: u32 = 24;
 
 // Which function a word names.
 pub fn named(word: &[u8]) -> u32 {
@@ -36,6 +42,8 @@ pub fn named(word: &[u8]) -> u32 {
         RSQRT
     } else if check::same(word, b"exp2") {
         EXP2
+    } else if check::same(word, b"exp") {
+        EXP
     } else if check::same(word, b"log2") {
         LOG2
     } else if check::same(word, b"sinpi") {
@@ -48,8 +56,12 @@ pub fn named(word: &[u8]) -> u32 {
         COS
     } else if check::same(word, b"dot") {
         DOT
+    } else if check::same(word, b"dot_nearest") {
+        DOT_NEAREST
     } else if check::same(word, b"softmax2") {
         SOFTMAX2
+    } else if check::same(word, b"softmax") {
+        SOFTMAX
     } else if check::same(word, b"loudness") {
         LOUDNESS
     } else {
@@ -65,6 +77,8 @@ fn at(function: u32, x: f32, out: &mut u32) -> u32 {
         earmath::ear_rsqrt(x, out)
     } else if function == EXP2 {
         earmath::ear_exp2(x, out)
+    } else if function == EXP {
+        earmath::ear_exp(x, out)
     } else if function == SINPI {
         earmath::ear_sinpi(x, out)
     } else if function == COSPI {
@@ -127,6 +141,14 @@ fn dot(floats: &[f32]) {
     answer(code, r);
 }
 
+// The same as the float nearest to the exact sum.
+fn dot_nearest(floats: &[f32]) {
+    let half = floats.len() / 2;
+    let mut r = 0;
+    let code = earmath::ear_dot_nearest(&floats[0..half], &floats[half..], &mut r);
+    answer(code, r);
+}
+
 // Results, each as an answer.
 fn list(results: &[u32]) {
     let mut i = 0;
@@ -137,9 +159,18 @@ fn list(results: &[u32]) {
     }
 }
 
+// The weights of the floats, base two or e.
+fn weights_of(function: u32, floats: &[f32], weights: &mut [u32]) -> u32 {
+    if function == SOFTMAX {
+        earmath::ear_softmax(floats, weights)
+    } else {
+        earmath::ear_softmax2(floats, weights)
+    }
+}
+
 // The weight of each of the floats among all of them, or one refusal.
-fn weigh(floats: &[f32], weights: &mut [u32]) {
-    let code = earmath::ear_softmax2(floats, weights);
+fn weigh(function: u32, floats: &[f32], weights: &mut [u32]) {
+    let code = weights_of(function, floats, weights);
     if code == 0 {
         list(weights);
     } else {
@@ -147,11 +178,11 @@ fn weigh(floats: &[f32], weights: &mut [u32]) {
     }
 }
 
-fn softmax2(floats: &[f32]) {
+fn softmax(function: u32, floats: &[f32]) {
     let mut weights = [0; 2048];
     let n = floats.len();
     if n <= 2048 {
-        weigh(floats, &mut weights[0..n]);
+        weigh(function, floats, &mut weights[0..n]);
     }
 }
 
@@ -180,8 +211,10 @@ fn loudness(floats: &[f32]) {
 pub fn apply(function: u32, floats: &[f32]) {
     if function == DOT {
         dot(floats);
-    } else if function == SOFTMAX2 {
-        softmax2(floats);
+    } else if function == DOT_NEAREST {
+        dot_nearest(floats);
+    } else if function == SOFTMAX2 || function == SOFTMAX {
+        softmax(function, floats);
     } else if function == LOUDNESS {
         loudness(floats);
     } else {

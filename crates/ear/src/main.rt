@@ -27,15 +27,15 @@ fn usage() {
     );
     io::write_all(
         STDOUT_FILENO,
-        b"sqrt rsqrt exp2 log2 sinpi cospi sin cos   of each pattern\n",
+        b"sqrt rsqrt exp2 exp log2 sinpi cospi sin cos   of each pattern\n",
     );
     io::write_all(
         STDOUT_FILENO,
-        b"dot                           the first half of the patterns times the second\n",
+        b"dot dot_nearest               the first half of the patterns times the second\n",
     );
     io::write_all(
         STDOUT_FILENO,
-        b"softmax2                      the weight of each pattern among all of them\n",
+        b"softmax2 softmax              the weight of each pattern among all of them, base two or e\n",
     );
     io::write_all(
         STDOUT_FILENO,
@@ -92,7 +92,7 @@ fn known(word: &[u8]) -> u32 {
     if function == functions::UNKNOWN {
         complain(
             word,
-            b" is no function: sqrt rsqrt exp2 log2 sinpi cospi sin cos dot softmax2 loudness\n",
+            b" is no function: sqrt rsqrt exp2 exp log2 sinpi cospi sin cos dot dot_nearest softmax2 softmax loudness\n",
         );
     }
     function

@@ -7,10 +7,13 @@ ghost use Rattle.roots.specs.Rsqrt.{Rsqrt};
 ghost use Rattle.loudness.specs.Map.{Loudness};
 ghost use Rattle.loudness.specs.Knee.{LoudnessKnee};
 ghost use Rattle.powers.specs.Exp2.{Exp2};
+ghost use Rattle.powers.specs.Exp.{Exp};
 ghost use Rattle.logs.specs.Log2.{Log2};
 ghost use Rattle.circle.specs.Promise.{SinPi, CosPi, Sin, Cos};
 ghost use Rattle.sums.specs.Dot.{Dot};
-ghost use Rattle.weights.specs.Softmax.{Softmax2, floatsOf};
+ghost use Rattle.exactsums.specs.Nearest.{NearestDot};
+ghost use Rattle.powers.specs.Base.{two, natural};
+ghost use Rattle.weights.specs.Softmax.{Softmax, floatsOf};
 
 // The square root of every bit pattern: the nearest float, or code 1 and nothing written.
 #[no_mangle]
@@ -34,6 +37,14 @@ pub extern "C" fn ear_exp2(x: f32, out: &mut u32) -> u32
     ensures { λ code. ⌜ Ends floatBits (Exp2 x) code (now (out .entry)) (now (out .exit)) ⌝ }
 {
     powers::exp2(x, out)
+}
+
+// e to the power of every bit pattern: within 515 / 2^33 of it, or code 1 and nothing written.
+#[no_mangle]
+pub extern "C" fn ear_exp(x: f32, out: &mut u32) -> u32
+    ensures { λ code. ⌜ Ends floatBits (Exp x) code (now (out .entry)) (now (out .exit)) ⌝ }
+{
+    powers::natural::exp(x, out)
 }
 
 // The logarithm to base two of every bit pattern: within 33 / 2^29 of it, relatively, and of 1 it is +0; or code 1 and nothing written.
@@ -88,9 +99,17 @@ pub extern "C" fn ear_dot(a: &[f32], b: &[f32], out: &mut u32) -> u32
 // or 1 and nothing written.
 #[no_mangle]
 pub extern "C" fn ear_softmax2(x: &[f32], p: &mut [u32]) -> u32
-    ensures { λ code. ⌜ Ends listBits (Softmax2 (now (x .entry)) (length (now (p .entry)))) code (now (p .entry)) (now (p .exit)) ⌝ }
+    ensures { λ code. ⌜ Ends listBits (Softmax two (now (x .entry)) (length (now (p .entry)))) code (now (p .entry)) (now (p .exit)) ⌝ }
 {
     weights::softmax2(x, p)
+}
+
+// The same with e in the place of 2, and the same bounds.
+#[no_mangle]
+pub extern "C" fn ear_softmax(x: &[f32], p: &mut [u32]) -> u32
+    ensures { λ code. ⌜ Ends listBits (Softmax natural (now (x .entry)) (length (now (p .entry)))) code (now (p .entry)) (now (p .exit)) ⌝ }
+{
+    weights::softmax(x, p)
 }
 
 // The loudness map of an envelope value a in the channel b, m, t, c: a step within 0.500001 of the exact map, or code 4 or 1 and nothing written.
@@ -105,7 +124,7 @@ pub extern "C" fn ear_loudness(b: f32, m: f32, t: u32, c: u32, a: f32, out: &mut
 // nothing written.
 #[no_mangle]
 pub extern "C" fn ear_softmax2_in_place(p: &mut [u32]) -> u32
-    ensures { λ code. ⌜ Ends listBits (Softmax2 (floatsOf (now (p .entry))) (length (now (p .entry)))) code (now (p .entry)) (now (p .exit)) ⌝ }
+    ensures { λ code. ⌜ Ends listBits (Softmax two (floatsOf (now (p .entry))) (length (now (p .entry)))) code (now (p .entry)) (now (p .exit)) ⌝ }
 {
     weights::softmax2_in_place(p)
 }
@@ -142,4 +161,12 @@ pub extern "C" fn ear_loudness_knee(
     ensures { λ code. ⌜ Ends itself (LoudnessKnee top b k m t kk c a) code (now (out .entry)) (now (out .exit)) ⌝ }
 {
     loudness::knee::loudness_knee(top, b, k, m, t, kk, c, a, out)
+}
+
+// The sum of the products of two lists: the float nearest to the exact sum, or code 2 or 1 and nothing written.
+#[no_mangle]
+pub extern "C" fn ear_dot_nearest(a: &[f32], b: &[f32], out: &mut u32) -> u32
+    ensures { λ code. ⌜ Ends floatBits (NearestDot (now (a .entry)) (now (b .entry))) code (now (out .entry)) (now (out .exit)) ⌝ }
+{
+    exactsums::dot_nearest(a, b, out)
 }

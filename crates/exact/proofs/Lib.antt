@@ -26,3 +26,4 @@ pub mod Turns
 pub mod Zero
 pub mod Exponential
 pub mod Natural
+pub mod ExpBounds

@@ -24,7 +24,7 @@ pub ln-unit-pos : 0 < lnUnit
 unfolding lnUnit
 ln-unit-pos = pow-pos 96
 
-every-most : (k : ℕ) → every k ≤ 1
+pub every-most : (k : ℕ) → every k ≤ 1
 unfolding every
 every-most k = omega arith
 

@@ -3,6 +3,7 @@ pub mod Nearest
 pub mod Horner
 pub mod Alternating
 pub mod Rounding
+pub mod Even
 pub mod Either
 pub mod Chains
 pub mod Dividing

@@ -7,7 +7,7 @@ ghost use Prim.Native.Nat.{_*_, _/_, _^_, _≤_, _<_};
 ghost use lib.Ieee.{binary32, toBits};
 ghost use Rattle.units.specs.Units.{Positive};
 ghost use Rattle.fixed.specs.Parts.{Apart};
-ghost use Rattle.fixed.specs.Rounded.{Normal, nearestBits};
+ghost use Rattle.fixed.specs.Rounded.{Normal, nearestBits, evenBits};
 
 // The bit pattern of every float, 0x7fc00000 of a NaN. That one comparison is all that is asked of the float unit, and none of its modes
 // disturbs it: rounding, subnormals that are read as zero.
@@ -80,4 +80,17 @@ pub fn nearest_bits(n: u64, e: u32) -> u32
     }
     let z = u32::leading_zeros(l);
     (e - 32 - z) * 8388608 + ((l << z) / 128 + 1) / 2
+}
+
+// The same with ties to even, for n of at most 63 digits: half a digit less one is added, and one more where the digits are odd.
+pub fn even_bits(n: u64, e: u32) -> u32
+    requires { ⌜ Normal n e × (n < 2 ^ 63) ⌝ }
+    ensures { λ r. ⌜ r ≡ evenBits n e ⌝ }
+{
+    if n == 0 {
+        return 0;
+    }
+    let z = u64::leading_zeros(n);
+    let m = n << (z - 1);
+    (e - z) * 8388608 + ((m + 274877906943 + m / 549755813888 % 2) / 549755813888) as u32
 }

@@ -3,5 +3,9 @@ pub mod Rounding
 pub mod Reduction
 pub mod Taken
 pub mod Order
-pub mod Fixed
 pub mod Promise
+pub mod NaturalTaken
+pub mod NaturalReduction
+pub mod NaturalPromise
+pub mod Base
+pub mod Fixed

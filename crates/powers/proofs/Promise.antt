@@ -103,22 +103,24 @@ exp2-order x a x′ a′ l =
 
 -- ---- weaker bounds
 
+-- a′ / b′ is no less than a / b: over plain numbers
+module _ (a b a′ b′ : ℕ) (wider : a * b′ ≤ a′ * b) where
+  pub more : (p q : ℕ) → b′ * p * ((b + a) * q) ≤ b * p * ((b′ + a′) * q)
+  more p q = omega (arith, mul-le-mul-right (p * q) wider)
+
+  pub fewer : (p q : ℕ) → b * p * ((b′ - a′) * q) ≤ b′ * p * ((b - a) * q)
+  fewer p q = through (b′ - a′) (b - a) (rw (mul-sub b b′ a′, mul-sub b′ b a) (omega arith))
+    where
+      through : (c d : ℕ) → b * c ≤ b′ * d → b * p * (c * q) ≤ b′ * p * (d * q)
+      through c d h = omega (arith, mul-le-mul-right (p * q) h)
+
 -- what is within a / b of 2 ^ x is within every larger a′ / b′ of it
 pub weaker : {a b a′ b′ : ℕ} {x r : Float} → a′ < b′ → a * b′ ≤ a′ * b → NearPower a b x r → NearPower a′ b′ x r
 weaker {a} {b} {a′} {b′} {x} {r} less wider w = record {
   plus = w .plus;
-  at-most = most-of-less (one-le-mul (omega arith) (pow-pos 149)) (more (P r) (2 ^ 149)) (w .at-most);
-  at-least = least-of-more (one-le-mul (omega arith) (pow-pos 149)) (fewer (P r) (2 ^ 149)) (w .at-least);
+  at-most = most-of-less (one-le-mul (omega arith) (pow-pos 149)) (more a b a′ b′ wider (P r) (2 ^ 149)) (w .at-most);
+  at-least = least-of-more (one-le-mul (omega arith) (pow-pos 149)) (fewer a b a′ b′ wider (P r) (2 ^ 149)) (w .at-least);
 }
-  where
-    more : (p q : ℕ) → b′ * p * ((b + a) * q) ≤ b * p * ((b′ + a′) * q)
-    more p q = omega (arith, mul-le-mul-right (p * q) wider)
-
-    fewer : (p q : ℕ) → b * p * ((b′ - a′) * q) ≤ b′ * p * ((b - a) * q)
-    fewer p q = through (b′ - a′) (b - a) (rw (mul-sub b b′ a′, mul-sub b′ b a) (omega arith))
-      where
-        through : (c d : ℕ) → b * c ≤ b′ * d → b * p * (c * q) ≤ b′ * p * (d * q)
-        through c d h = omega (arith, mul-le-mul-right (p * q) h)
 
 -- so the result is within 2 ^ -22, which document 01 asks for
 pub as-asked : {x r : Float} → NearPower exp2ErrorNum exp2ErrorDen x r → NearPower 1 (2 ^ 22) x r

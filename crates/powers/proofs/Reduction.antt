@@ -60,7 +60,7 @@ module _ (d k p n : ℕ) (pos : 0 < k) (small : n ≤ 126 * (d * k)) where
 -- ---- 2 ^ (2 ^ -32)
 
 -- it is at most 1 + 7 / (10 D)
-one-step : AtLeast (10 * D + 7) (10 * D) 1 0 D
+pub one-step : AtLeast (10 * D + 7) (10 * D) 1 0 D
 unfolding upper value
 one-step = least-of-more (lit< tt) (lit≤ tt) (tight-above .bound 1 D (lit< tt) (lit≤ tt))
 
@@ -92,19 +92,23 @@ module _ (x : Float) (a : Accepts x) where
 
 -- ---- Order
 
--- a larger x is never cut to less
-pub cut-mono : (x x′ : Float) → Le x′ x → cutOf x′ ≤ cutOf x
-unfolding cutOf
-cut-mono x x′ l = kept (126 * D) (P x / K) (P x′ / K) (N x / K) (N x′ / K) (quotients K (pow-pos 117) (apart .0)) (quotients K (pow-pos 117) (apart .1))
+-- a larger x has no smaller positive and no larger negative part
+pub part-order : (x x′ : Float) → Le x′ x → (P x′ ≤ P x) × (N x ≤ N x′)
+part-order x x′ l = go (sides x) (sides x′)
   where
-    kept : (c a a′ b b′ : ℕ) → a′ ≤ a → b ≤ b′ → c + a′ - b′ ≤ c + a - b
-    kept c a a′ b b′ h k = omega arith
-
     go : ((P x ≡ mag x) × (N x ≡ 0)) ⊎ ((P x ≡ 0) × (N x ≡ mag x)) → ((P x′ ≡ mag x′) × (N x′ ≡ 0)) ⊎ ((P x′ ≡ 0) × (N x′ ≡ mag x′)) → (P x′ ≤ P x) × (N x ≤ N x′)
     go (inl h) (inl k) = (omega arith, omega arith)
     go (inl h) (inr k) = (omega arith, omega arith)
     go (inr h) (inl k) = (omega arith, omega arith)
     go (inr h) (inr k) = (omega arith, omega arith)
 
-    apart : (P x′ ≤ P x) × (N x ≤ N x′)
-    apart = go (sides x) (sides x′)
+-- whatever never falls may count the parts
+pub counted-order : (c a a′ b b′ : ℕ) → a′ ≤ a → b ≤ b′ → c + a′ - b′ ≤ c + a - b
+counted-order c a a′ b b′ h k = omega arith
+
+-- a larger x is never cut to less
+pub cut-mono : (x x′ : Float) → Le x′ x → cutOf x′ ≤ cutOf x
+unfolding cutOf
+cut-mono x x′ l =
+    let (h, k) = part-order x x′ l in
+    counted-order (126 * D) (P x / K) (P x′ / K) (N x / K) (N x′ / K) (quotients K (pow-pos 117) h) (quotients K (pow-pos 117) k)

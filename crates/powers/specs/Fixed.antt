@@ -1,26 +1,30 @@
--- 2 ^ x in fixed point, on which softmax is built: digits and an exponent, before any rounding to a float. A reader of the promises need not read this. Definitions only.
-use mathlib.Core.Path.{_≡_}
+-- The powers of 2 and of e in fixed point, on which softmax is built: digits and an exponent, before any rounding to a float. A reader of the promises need not read this. Definitions only.
+use mathlib.Core.Bool.{true, false}
 use Prim.Native.Nat.{ℕ, _+_, _*_, _/_, _%_, _^_, _≤_}
 use lib.Ieee.{Float}
-use Rattle.units.specs.Units.{P, N, Le}
-use Rattle.exact.specs.Power.{AtMost, AtLeast}
+use Rattle.units.specs.Units.{Le}
 use Rattle.powers.specs.Raised.{raised}
-use Rattle.powers.specs.Exp2.{Accepts}
-use Rattle.powers.specs.Value.{cutOf}
+use Rattle.powers.specs.Base.{Base, PowerAtMost, PowerAtLeast}
+use Rattle.powers.specs.Value.{cutOf, naturalCut}
 
--- what the program computes: the power of the fraction, in units of 2 ^ -32
-unfoldable pub fixedDigits : Float → ℕ
-fixedDigits x = raised (cutOf x % 2 ^ 32)
+-- x + 126, or x log2 e + 126, as a whole number of 2 ^ -32
+unfoldable pub argumentOf : Base → Float → ℕ
+argumentOf false x = cutOf x
+argumentOf true x = naturalCut x
 
--- and the whole part of x + 126
-unfoldable pub fixedExponent : Float → ℕ
-fixedExponent x = cutOf x / 2 ^ 32
+-- what the program computes: the power of its fraction, in units of 2 ^ -32
+unfoldable pub fixedDigits : Base → Float → ℕ
+fixedDigits base x = raised (argumentOf base x % 2 ^ 32)
 
--- 2 ^ x as one whole number of steps of 2 ^ -158
-abbrev pub fixedPower : Float → ℕ
-fixedPower x = fixedDigits x * 2 ^ fixedExponent x
+-- and its whole part
+unfoldable pub fixedExponent : Base → Float → ℕ
+fixedExponent base x = argumentOf base x / 2 ^ 32
 
--- it is at most 2 parts in 2 ^ 32 above the real number 2 ^ x
+-- the power as one whole number of steps of 2 ^ -158
+abbrev pub fixedPower : Base → Float → ℕ
+fixedPower base x = fixedDigits base x * 2 ^ fixedExponent base x
+
+-- it is at most 2 parts in 2 ^ 32 above the real number
 abbrev pub fixedAbove : ℕ
 fixedAbove = 2
 
@@ -28,17 +32,15 @@ fixedAbove = 2
 abbrev pub fixedBelow : ℕ
 fixedBelow = 8
 
--- r digits with the exponent e are 2 ^ x in fixed point
-pub record FixedExp2 (x : Float) (r e : ℕ) : Type 0 where
-  pub digits : r ≡ fixedDigits x
-  pub whole-part : e ≡ fixedExponent x
+-- these digits and this exponent are the base to the power x in fixed point
+pub record FixedPower (base : Base) (x : Float) : Type 0 where
   -- from 1 to 2
-  pub least : 2 ^ 32 ≤ r
-  pub most : r ≤ 2 ^ 33
-  -- r 2 ^ e / 2 ^ 158 is at most (1 + 2 / 2 ^ 32) 2 ^ x
-  pub at-most : AtMost (2 ^ 32 * (r * 2 ^ e)) ((2 ^ 32 + fixedAbove) * 2 ^ 158) (P x) (N x) (2 ^ 149)
-  -- and 2 ^ x at most (1 + 8 / 2 ^ 32) of it
-  pub at-least : AtLeast ((2 ^ 32 + fixedBelow) * (r * 2 ^ e)) (2 ^ 32 * 2 ^ 158) (P x) (N x) (2 ^ 149)
+  pub least : 2 ^ 32 ≤ fixedDigits base x
+  pub most : fixedDigits base x ≤ 2 ^ 33
+  -- over 2 ^ 158 it is at most (1 + 2 / 2 ^ 32) times the power
+  pub at-most : PowerAtMost base (2 ^ 32 * fixedPower base x) ((2 ^ 32 + fixedAbove) * 2 ^ 158) x
+  -- and the power at most (1 + 8 / 2 ^ 32) of it
+  pub at-least : PowerAtLeast base ((2 ^ 32 + fixedBelow) * fixedPower base x) (2 ^ 32 * 2 ^ 158) x
   -- a larger input has no smaller exponent, and no smaller power
-  pub exponents : (x′ : Float) → Accepts x′ → Le x′ x → fixedExponent x′ ≤ e
-  pub order : (x′ : Float) → Accepts x′ → Le x′ x → fixedPower x′ ≤ r * 2 ^ e
+  pub exponents : (x′ : Float) → Le x′ x → fixedExponent base x′ ≤ fixedExponent base x
+  pub order : (x′ : Float) → Le x′ x → fixedPower base x′ ≤ fixedPower base x

@@ -1,10 +1,9 @@
--- What the program computes for 2 ^ x. A reader of the promise need not read this: Exp2 names `exp2Of` and says all that is promised of it. Definitions only.
-use mathlib.Core.Path.{_≡_}
-use Prim.Native.Nat.{ℕ, _+_, _-_, _*_, _/_, _%_, _^_, _≤_, _<_}
+-- What the programs compute for 2 ^ x and e ^ x. A reader of the promises need not read this: they name `exp2Of` and `expOf`, and say all that is promised of them. Definitions only.
+use Prim.Native.Nat.{ℕ, _+_, _-_, _*_, _/_, _%_, _^_}
 use mathlib.Core.Bool.{cond}
 use lib.Dec.{ltb}
 use lib.Ieee.{Float, binary32, ofBits}
-use Rattle.units.specs.Units.{P, N, Between}
+use Rattle.units.specs.Units.{P, N}
 use Rattle.powers.specs.Raised.{raised}
 
 -- the pattern b of a size below 2 ^ 7 as a whole number of 2 ^ -32, the rest cut off
@@ -26,3 +25,20 @@ roundedPower c = c / 2 ^ 32 * 8388608 + powerDigits (c % 2 ^ 32)
 -- and its float
 unfoldable pub exp2Of : Float → Float
 exp2Of x = ofBits binary32 (roundedPower (cutOf x))
+
+-- ---- e ^ x is 2 ^ (x log2 e)
+-- log2 e in units of 2 ^ -39, cut off
+abbrev pub log2E : ℕ
+log2E = 0xb8aa3b295c
+
+-- the size with the pattern a, times log2 e, as a whole number of 2 ^ -32
+unfoldable pub naturalSteps : ℕ → ℕ
+naturalSteps a = cond (ltb a (94 * 8388608)) 0 ((a % 8388608 + 8388608) * log2E / 2 ^ (157 - a / 8388608))
+
+-- x log2 e + 126 as a whole number of 2 ^ -32, what is left of its size cut off
+unfoldable pub naturalCut : Float → ℕ
+naturalCut x = 126 * 2 ^ 32 + P x * log2E / 2 ^ 156 - N x * log2E / 2 ^ 156
+
+-- and its power's float
+unfoldable pub expOf : Float → Float
+expOf x = ofBits binary32 (roundedPower (naturalCut x))

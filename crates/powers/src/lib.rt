@@ -1,4 +1,7 @@
-// 2 to the power x: whole numbers inside, one pattern put together at the end.
+// 2 to the power x, and e to it: whole numbers inside, one pattern put together at the end.
+
+pub mod fixed_point;
+pub mod natural;
 
 ghost use mathlib.Core.Path.{_≡_};
 ghost use mathlib.Core.Bool.{cond};
@@ -10,7 +13,6 @@ ghost use Rattle.units.specs.Answers.{Ends, floatBits};
 ghost use Rattle.units.specs.Tests.{Tells};
 ghost use Rattle.powers.specs.Value.{stepsOf, cutOf, roundedPower};
 ghost use Rattle.powers.specs.Exp2.{Accepts, Exp2};
-ghost use Rattle.powers.specs.Fixed.{FixedExp2};
 
 // One step of Horner's rule, the product of two 32-bit numbers cut off to its upper half.
 fn step(c: u32, p: u32, f: u32) -> u32
@@ -84,24 +86,6 @@ fn whole_cut(x: f32) -> u64
     let unit = of_sign(b, u, 0xffff_ffff - u + 1);
     let part = of_sign(b, 126, std::num::wrapping_sub_u32(126, m));
     std::num::wrapping_add_u64((part as u64) * 4294967296, (m as u64) * (unit as u64))
-}
-
-// Digits and an exponent: r * 2^(e - 158).
-pub struct Digits {
-    pub r: u64,
-    pub e: u32,
-}
-
-// 2 to the power x in fixed point, x from -126 to 127: the power of the fraction of x + 126, and its whole part.
-pub fn fixed_exp2(x: f32) -> Digits
-    requires { ⌜ Accepts x ⌝ }
-    ensures { λ t. ⌜ FixedExp2 x (t .r) (t .e) ⌝ }
-{
-    let c = cut_off(x);
-    Digits {
-        r: 0x1_0000_0000 + raise((c % 4294967296) as u32) as u64,
-        e: (c / 4294967296) as u32,
-    }
 }
 
 // From -126 to 127: of patterns up to 127's, and from -0's to that of -126.

@@ -44,26 +44,26 @@ one-scaled e h =
     let k : 70 + parity e + (e + (turned e + turned e)) ≡ 447 + 24 = omega arith in
     sym (pow-add 2 447 24) ∙ ap (λ (n : ℕ). 2 ^ n) (sym k) ∙ pow-add 2 (70 + parity e) (e + (turned e + turned e))
 
--- the power of two as the program has it, in steps of 2 ^ 30 and in a word of 64 digits
+-- the power of two as the program has it, in steps of 2 ^ 62 and in a word of 32 digits
 abbrev inWord : ℕ → ℕ
-inWord e = 1 * 2 ^ (40 + parity e) % 18446744073709551616
+inWord e = 1 * 2 ^ (8 + parity e) % 4294967296
 
-word-is : (e : ℕ) → inWord e ≡ 2 ^ (40 + parity e)
+word-is : (e : ℕ) → inWord e ≡ 2 ^ (8 + parity e)
 word-is e =
-    let p = 2 ^ (40 + parity e) in
-    let h : p ≤ 2 ^ 41 = pow-mono {i = 40 + parity e} {j = 41} (omega arith) in
+    let p = 2 ^ (8 + parity e) in
+    let h : p ≤ 2 ^ 9 = pow-mono {i = 8 + parity e} {j = 9} (omega arith) in
     mod-eq-of-lt (omega arith) ∙ omega arith
 
 pub word-least : (e : ℕ) → 1 ≤ inWord e
-word-least e = le-trans (pow-pos (40 + parity e)) (le-of-eq (sym (word-is e)))
+word-least e = le-trans (pow-pos (8 + parity e)) (le-of-eq (sym (word-is e)))
 
-pub word-most : (e : ℕ) → inWord e ≤ 2 ^ 41
-word-most e = le-trans (le-of-eq (word-is e)) (pow-mono {i = 40 + parity e} {j = 41} (omega arith))
+pub word-most : (e : ℕ) → inWord e ≤ 2 ^ 9
+word-most e = le-trans (le-of-eq (word-is e)) (pow-mono {i = 8 + parity e} {j = 9} (omega arith))
 
-pub word-evened : (e : ℕ) → inWord e * 2 ^ 30 ≡ evened e
+pub word-evened : (e : ℕ) → inWord e * 2 ^ 62 ≡ evened e
 word-evened e =
-    let k : 40 + parity e + 30 ≡ 70 + parity e = omega arith in
-    ap (λ (n : ℕ). n * 2 ^ 30) (word-is e) ∙ sym (pow-add 2 (40 + parity e) 30) ∙ ap (λ (n : ℕ). 2 ^ n) k
+    let k : 8 + parity e + 62 ≡ 70 + parity e = omega arith in
+    ap (λ (n : ℕ). n * 2 ^ 62) (word-is e) ∙ sym (pow-add 2 (8 + parity e) 62) ∙ ap (λ (n : ℕ). 2 ^ n) k
 
 -- ---- Method: sides of a test on m and t, and of the same test on x, are in one proportion. X u² c = m w and B c = t w
 module _ (X m t w c u B : ℕ) (xs : X * (u * u) * c ≡ m * w) (bs : B * c ≡ t * w) where

@@ -46,9 +46,6 @@ few x m e a =
     let h : shifted e ≤ 24 = omega arith in
     lt-of-lt-of-le (mul-lt-mul-of-pos-right (a .digits) (pow-pos (shifted e))) (le-trans (mul-le-mul-left (2 ^ 24) (pow-mono h)) (le-of-eq (sym (pow-add 2 24 24))))
 
-pub whole-word : (x : Float) (m e : ℕ) → Apart x m e → radicand m e % 18446744073709551616 ≡ radicand m e
-whole-word x m e a = mod-eq-of-lt (lt-of-lt-of-le (few x m e a) (pow-mono {i = 48} {j = 64} (omega arith)))
-
 -- ---- Method: two tests on whole numbers are the tests on sums of floats
 over-by : (n S u B : ℕ) → 0 < u → n * (u * u) ≡ B → n ≤ S * S + S → 4 * B < (2 * S + 1) * u * ((2 * S + 1) * u)
 over-by n S u B pu e h =

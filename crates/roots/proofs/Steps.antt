@@ -50,7 +50,7 @@ pub limb-fits : (q m k : ℕ) → q ≤ k → m < 16777216 → q * m ≤ k * 167
 limb-fits q m k l h = mul-le-mul l (omega arith)
 
 -- a reciprocal root of 24 digits: a step up stays near it, and where a step down is taken there is room for it
-pub recip-up : (m t h : ℕ) → 8388608 ≤ m → t ≤ 2199023255552 → (2 * h + 1) * (2 * h + 1) * m / 4294967296 < t → h + 1 < 67108864
+pub recip-up : (m t h : ℕ) → 8388608 ≤ m → t ≤ 512 → (2 * h + 1) * (2 * h + 1) * m / 18446744073709551616 < t → h + 1 < 67108864
 recip-up m t h ml tl l = elim (le-or-lt h 33554432) [
   | inl k ↦ omega arith
   | inr k ↦
@@ -59,7 +59,7 @@ recip-up m t h ml tl l = elim (le-or-lt h 33554432) [
       absurd (not-le-of-lt l (omega arith))
 ]
 
-pub recip-room : (m t h : ℕ) → m < 16777216 → 1 ≤ t → t ≤ (2 * h + 1) * (2 * h + 1) * m / 4294967296 → 1 ≤ h
+pub recip-room : (m t h : ℕ) → m < 16777216 → 1 ≤ t → t ≤ (2 * h + 1) * (2 * h + 1) * m / 18446744073709551616 → 1 ≤ h
 recip-room m t h ml tl l = elim (le-or-lt 1 h) [
   | inl k ↦ k
   | inr k ↦
@@ -69,7 +69,7 @@ recip-room m t h ml tl l = elim (le-or-lt 1 h) [
 ]
 
 -- both tests together say that h is the nearest
-pub recip-near : (m t h : ℕ) → 1 ≤ h → t ≤ (2 * h + 1) * (2 * h + 1) * m / 4294967296 → (2 * (h - 1) + 1) * (2 * (h - 1) + 1) * m / 4294967296 < t → IsNearRecip (t * 1073741824) m h
+pub recip-near : (m t h : ℕ) → 1 ≤ h → t ≤ (2 * h + 1) * (2 * h + 1) * m / 18446744073709551616 → (2 * (h - 1) + 1) * (2 * (h - 1) + 1) * m / 18446744073709551616 < t → IsNearRecip (t * 4611686018427387904) m h
 recip-near m t h p over under =
     let e : 2 * h - 1 ≡ 2 * (h - 1) + 1 = omega arith in
-    record { half-above = omega arith; half-below = subst (λ (o : ℕ). o * o * m < 4 * (t * 1073741824)) (sym e) (omega arith) }
+    record { half-above = omega arith; half-below = subst (λ (o : ℕ). o * o * m < 4 * (t * 4611686018427387904)) (sym e) (omega arith) }

@@ -1,110 +1,128 @@
 // First guesses at a root and a reciprocal root: a row of coefficients by the first digits of m and the parity of e, and a polynomial of
-// degree 4 in the other digits. Nothing is promised of a guess but its size; the rows come from tools/root_tables.py.
+// degree 3 in the other digits, in words of 32 bits. Nothing is promised of a guess but its size, so sums may wrap; the rows come from
+// tools/root_tables.py.
 
-ghost use Prim.Native.Nat.{_*_, _≤_, _<_, _^_};
+ghost use Prim.Native.Nat.{_<_, _^_};
 
 struct Coefficients {
     a: u32,
     b: u32,
     c: u32,
     d: u32,
-    e: u32,
 }
 
-fn of(a: u32, b: u32, c: u32, d: u32, e: u32) -> Coefficients {
-    Coefficients { a, b, c, d, e }
+fn of(a: u32, b: u32, c: u32, d: u32) -> Coefficients {
+    Coefficients { a, b, c, d }
 }
 
-// For each eighth of two octaves: the coefficients of 1, d, d w, d w^2 and d w^3, where w is 2 ^ 20 - d.
+// For each sixteenth of two octaves: what the root is at its upper end, and the coefficients of the distance from there.
 fn root_row(i: u32) -> Coefficients {
     match i {
-        0 => of(0xb504f3c3, 0xafb0cadc, 0x050630a3, 0x241553cb, 0x00005bb7),
-        1 => of(0xc0000089, 0xa62c1c48, 0x04438b36, 0x1b8b5e23, 0x00003e1d),
-        2 => of(0xca62c25d, 0x9e0d2bd7, 0x03ad8051, 0x159624d2, 0x00002bbe),
-        3 => of(0xd4439524, 0x970429b1, 0x0336f3c3, 0x11498cc7, 0x00001fce),
-        4 => of(0xddb3d7c5, 0x90d82daf, 0x02d75b98, 0x0e18e902, 0x000017c0),
-        5 => of(0xe6c15aa5, 0x8b5f6647, 0x0288f12f, 0x0bac9101, 0x00001224),
-        6 => of(0xef77510d, 0x867a4fc8, 0x0247ac33, 0x09cbcfef, 0x00000e20),
-        7 => of(0xf7def60b, 0x8210a738, 0x0210a856, 0x0850b83e, 0x00000b2f),
-        8 => of(0x8000008b, 0x7c3b6519, 0x038d7941, 0x1983c823, 0x000040da),
-        9 => of(0x87c3b6ed, 0x7580668d, 0x0303d68a, 0x137a0f8a, 0x00002bec),
-        10 => of(0x8f1bbd61, 0x6fc25e5a, 0x0299bded, 0x0f439457, 0x00001eee),
-        11 => of(0x9617e34d, 0x6ac8dd03, 0x0245ea46, 0x0c395037, 0x0000167e),
-        12 => of(0x9cc47122, 0x666ba548, 0x020251d2, 0x09f7e433, 0x000010cb),
-        13 => of(0xa32b2b7a, 0x628d2536, 0x01cadf14, 0x08413abe, 0x00000cd4),
-        14 => of(0xa953fdd0, 0x5f171413, 0x019cb80a, 0x06ed49b1, 0x000009fd),
-        _ => of(0xaf456f12, 0x5bf84a0d, 0x0175d13c, 0x05e13f00, 0x000007e8),
+        0 => of(0x83f07b43, 0x03e16e6a, 0x000e9639, 0x00007692),
+        1 => of(0x87c3b672, 0x03c570db, 0x000d63fd, 0x00006659),
+        2 => of(0x8b7c19ac, 0x03abb0c2, 0x000c5969, 0x00005911),
+        3 => of(0x8f1bbce4, 0x0393e57e, 0x000b6fa6, 0x00004e15),
+        4 => of(0x92a475cf, 0x037dd2b1, 0x000aa154, 0x000044e7),
+        5 => of(0x9617e2d0, 0x036945b4, 0x0009ea23, 0x00003d2b),
+        6 => of(0x997773b0, 0x035613ae, 0x0009469b, 0x00003698),
+        7 => of(0x9cc470a4, 0x03441814, 0x0008b3e8, 0x000030f8),
+        8 => of(0xa0000004, 0x0333338d, 0x00082fb3, 0x00002c20),
+        9 => of(0xa32b2afc, 0x03234afa, 0x0007b812, 0x000027ed),
+        10 => of(0xa646e174, 0x031446cf, 0x00074b67, 0x00002443),
+        11 => of(0xa953fd51, 0x03061278, 0x0006e856, 0x0000210e),
+        12 => of(0xac534528, 0x02f89be2, 0x00068dba, 0x00001e3b),
+        13 => of(0xaf456e93, 0x02ebd317, 0x00063a99, 0x00001bbc),
+        14 => of(0xb22b202d, 0x02dfa9f9, 0x0005ee1d, 0x00001984),
+        15 => of(0xb504f336, 0x02d413f2, 0x0005a78d, 0x0000178a),
+        16 => of(0xba972881, 0x057cec8d, 0x0014a0fd, 0x0000a7af),
+        17 => of(0xc0000010, 0x055556ec, 0x0012efe9, 0x000090bd),
+        18 => of(0xc542e134, 0x0530ec49, 0x001176e8, 0x00007df6),
+        19 => of(0xca62c1e2, 0x050f45f0, 0x00102c52, 0x00006e6d),
+        20 => of(0xcf623a5a, 0x04f00e7f, 0x000f0889, 0x00006172),
+        21 => of(0xd44394a7, 0x04d2fe55, 0x000e0578, 0x00005681),
+        22 => of(0xd908d8ea, 0x04b7d8da, 0x000d1e34, 0x00004d35),
+        23 => of(0xddb3d748, 0x049e6a63, 0x000c4ebb, 0x00004541),
+        24 => of(0xe2463006, 0x04868692, 0x000b93c5, 0x00003e67),
+        25 => of(0xe6c15a27, 0x04700716, 0x000aea96, 0x00003876),
+        26 => of(0xeb26a8f4, 0x045aca9d, 0x000a50e7, 0x00003349),
+        27 => of(0xef77508f, 0x0446b40e, 0x0009c4ce, 0x00002ebf),
+        28 => of(0xf3b469d0, 0x0433a9d7, 0x000944aa, 0x00002ac1),
+        29 => of(0xf7def58d, 0x0421956b, 0x0008cf1a, 0x00002739),
+        30 => of(0xfbf7df5f, 0x041062cd, 0x000862ef, 0x00002416),
+        _ => of(0xffffffff, 0x04000035, 0x0007ff25, 0x0000214a),
     }
 }
 
-// The same for the reciprocal root: the coefficients of the powers of v = 2 ^ 20 - 1 - d.
+// The same for the reciprocal root.
 fn reciprocal_row(i: u32) -> Coefficients {
     match i {
-        0 => of(0x55555621, 0x97b39d0f, 0x0329e9ac, 0x48d98c10, 0x00025d07),
-        1 => of(0x50f44e2d, 0x81869852, 0x026e2dff, 0x32ae6a7a, 0x00016e84),
-        2 => of(0x4d2fd980, 0x70456e0b, 0x01ea2cb1, 0x24757f33, 0x0000e97e),
-        3 => of(0x49e69d94, 0x6288b7bf, 0x018a4bed, 0x1af89082, 0x00009afe),
-        4 => of(0x47006af4, 0x5762e919, 0x0142c24c, 0x146dea3c, 0x00006a78),
-        5 => of(0x446b3c02, 0x4e315e2c, 0x010c2810, 0x0fca6cda, 0x00004b4a),
-        6 => of(0x421952f2, 0x4681621e, 0x00e1a993, 0x0c6bd375, 0x00003693),
-        7 => of(0x40000062, 0x3ffffb39, 0x00c007f4, 0x09ebe0ea, 0x0000286b),
-        8 => of(0x78adf87e, 0xd689d9f2, 0x047963be, 0x670673a4, 0x000357a3),
-        9 => of(0x727c97e4, 0xb72d55b7, 0x036fe51a, 0x47ac96f4, 0x00020655),
-        10 => of(0x6d28a59c, 0x9ec68519, 0x02b53626, 0x338f906c, 0x00014a35),
-        11 => of(0x6882f657, 0x8b59234e, 0x022d9ea1, 0x262480af, 0x0000db32),
-        12 => of(0x6469560e, 0x7b953ebc, 0x01c8733c, 0x1ce435ea, 0x00009692),
-        13 => of(0x60c24819, 0x6e94d54c, 0x017b3b02, 0x1654deab, 0x00006a79),
-        14 => of(0x5d7a5d91, 0x63b5aec0, 0x013f2284, 0x1190f3ce, 0x00004d2e),
-        _ => of(0x5a827a0b, 0x5a8272d7, 0x010f92ad, 0x0e07ed35, 0x00003929),
+        0 => of(0xf85b4192, 0x074e0d07, 0x00523281, 0x00047e24),
+        1 => of(0xf15bee65, 0x06b46328, 0x00474825, 0x0003a800),
+        2 => of(0xeaebf4dc, 0x062eac8c, 0x003e4a91, 0x00030283),
+        3 => of(0xe4f92dd8, 0x05b976c2, 0x0036cf82, 0x000280d1),
+        4 => of(0xdf748273, 0x05520a26, 0x00308768, 0x000219e4),
+        5 => of(0xda5149a9, 0x04f63bba, 0x002b35d2, 0x0001c748),
+        6 => of(0xd584cd47, 0x04a44be2, 0x0026ac3d, 0x0001844b),
+        7 => of(0xd105eb5b, 0x045ace0d, 0x0022c66f, 0x00014d76),
+        8 => of(0xccccccae, 0x0418969f, 0x001f67e0, 0x00012033),
+        9 => of(0xc8d2aaf1, 0x03dcad51, 0x001c79e7, 0x0000fa89),
+        10 => of(0xc511a2d0, 0x03a642e0, 0x0019ea4b, 0x0000daf9),
+        11 => of(0xc1848f23, 0x0374a903, 0x0017aa55, 0x0000c058),
+        12 => of(0xbe26eb22, 0x03474c49, 0x0015adfd, 0x0000a9bd),
+        13 => of(0xbaf4ba28, 0x031daf25, 0x0013eb67, 0x00009670),
+        14 => of(0xb7ea73be, 0x02f76626, 0x00125a67, 0x000085de),
+        15 => of(0xb504f32a, 0x02d414d3, 0x0010f430, 0x00007792),
+        16 => of(0xaf9d52ba, 0x052a535f, 0x003a1f4d, 0x00032d45),
+        17 => of(0xaaaaaa49, 0x04bdab4b, 0x00326763, 0x000295da),
+        18 => of(0xa61d5efd, 0x045f1e99, 0x002c0bee, 0x000220d5),
+        19 => of(0xa1e89ad5, 0x040c3d4d, 0x0026c1c7, 0x0001c520),
+        20 => of(0x9e01b257, 0x03c31b83, 0x002250ac, 0x00017c59),
+        21 => of(0x9a5fb1c1, 0x038230ca, 0x001e8de3, 0x000141ef),
+        22 => of(0x96fb060f, 0x034840a1, 0x001b5886, 0x00011291),
+        23 => of(0x93cd3a12, 0x0314493e, 0x001896f8, 0x0000ebcb),
+        24 => of(0x90d0c27a, 0x02e576c4, 0x0016350e, 0x0000cbc9),
+        25 => of(0x8e00d4f0, 0x02bb19a8, 0x001422bd, 0x0000b128),
+        26 => of(0x8b59479c, 0x02949f58, 0x00125328, 0x00009ad6),
+        27 => of(0x88d6771e, 0x02718c9a, 0x0010bbe3, 0x00008802),
+        28 => of(0x86753180, 0x0251792a, 0x000f546f, 0x00007806),
+        29 => of(0x8432a50d, 0x02340c43, 0x000e15d2, 0x00006a60),
+        30 => of(0x820c5238, 0x0218f9e8, 0x000cfa46, 0x00005ea8),
+        _ => of(0x7ffffff9, 0x020000ba, 0x000bfcf9, 0x0000548d),
     }
 }
 
-// A coefficient times a number of at most 30 digits.
-fn term(c: u32, x: u64) -> u64
-    requires { ⌜ x ≤ 2 ^ 30 ⌝ }
-    ensures { λ r. ⌜ r ≤ 4294967295 * x ⌝ }
-{
-    c as u64 * x
+// A product of two words.
+fn product(a: u32, b: u32) -> u64 {
+    (a as u64) * (b as u64)
 }
 
-// A number times a number of at most 20 digits.
-fn times(a: u64, b: u64) -> u64
-    requires { ⌜ (a ≤ 2 ^ 40) × (b ≤ 2 ^ 20) ⌝ }
-    ensures { λ r. ⌜ r ≤ 1048576 * a ⌝ }
-{
-    a * b
-}
-
-// The row of m and e: the octave by the parity of e, the eighth by the digits of m after the first.
+// The row of m and e: the octave by the parity of e, the sixteenth by the digits of m after the first.
 fn row(m: u32, e: u32) -> u32 {
-    (e % 2 * 8 + m / 1048576) % 16
+    m / 524288 % 16 + e % 2 * 16
+}
+
+// How far the polynomial is from its value at the sixteenth's upper end.
+fn rest(t: Coefficients, m: u32) -> u32 {
+    let v = 0xffff_ffff - (m << 13);
+    let y = (product(v, v) / 4294967296) as u32;
+    let p = std::num::wrapping_add_u32(t.c, (product(t.d, v) / 4294967296) as u32);
+    (std::num::wrapping_add_u64(product(t.b, v), product(p, y)) / 4294967296) as u32
 }
 
 // A guess at the root of m * 2 ^ (23 + e % 2).
-pub fn root(m: u32, e: u32) -> u64
+pub fn root(m: u32, e: u32) -> u32
     ensures { λ r. ⌜ r < 2 ^ 26 ⌝ }
 {
     let t = root_row(row(m, e));
-    let d = (m % 1048576) as u64;
-    let w = 1048576 - d;
-    let y = times(d, w);
-    let z = times(y, w);
-    let q = times(y / 16384, times(w, w) / 1048576);
-    let low = term(t.d, z / 2199023255552) + term(t.e, q / 65536);
-    let high = term(t.a, 1073741824) + term(t.b, d * 64) + term(t.c, y / 16384);
-    (high + low) / 274877906944
+    let a = t.a;
+    (std::num::wrapping_sub_u32(a, rest(t, m)) / 128 + 1) / 2
 }
 
 // A guess at the root of 2 ^ (70 + (401 - e) % 2) / m.
-pub fn reciprocal(m: u32, e: u32) -> u64
+pub fn reciprocal(m: u32, e: u32) -> u32
     ensures { λ r. ⌜ r < 2 ^ 26 ⌝ }
 {
     let t = reciprocal_row(row(m, e));
-    let v = 1048575 - (m % 1048576) as u64;
-    let v2 = times(v, v);
-    let v3 = times(v2, v);
-    let v4 = times(v2 / 4096, v2 / 1048576);
-    let low = term(t.d, v3 / 2199023255552) + term(t.e, v4 / 524288);
-    let high = term(t.a, 1073741824) + term(t.b, v * 32) + term(t.c, v2 / 8192);
-    (high + low) / 137438953472
+    let a = t.a;
+    (std::num::wrapping_add_u32(a, rest(t, m)) / 128 + 1) / 2
 }

@@ -11,15 +11,15 @@ ghost use Rattle.roots.specs.Sqrt.{Sqrt};
 ghost use Rattle.roots.specs.Rsqrt.{Rsqrt};
 
 // The whole number nearest to the root of n, whatever the guess: the tests of the two loops are the statement.
-fn settle_root(n: u64, guess: u64) -> u64
+fn settle_root(n: u64, guess: u32) -> u32
     requires { ⌜ (2 ^ 46 ≤ n) × (n < 2 ^ 48) × (guess < 2 ^ 26) ⌝ }
     ensures { λ s. ⌜ IsNear n s ⌝ }
 {
     let mut s = guess;
-    while s * s + s < n {
+    while (s as u64) * (s as u64) + (s as u64) < n {
         s += 1;
     }
-    while n + s <= s * s {
+    while n + (s as u64) <= (s as u64) * (s as u64) {
         s -= 1;
     }
     s
@@ -33,16 +33,19 @@ fn root_bits(x: f32) -> u32
     let p = fixed::apart(x);
     let m = p.m;
     let e = p.e;
-    let n = (m as u64) << (23 + e % 2);
+    let n = ((m << (e % 2)) as u64) * 8388608;
     let s = settle_root(n, guess::root(m, e));
-    (e / 2 + 51) * 8388608 + s as u32
+    (e / 2 + 51) * 8388608 + s
 }
 
 // The nearest float to the root of x, of a zero the same zero; code 1 and nothing written where x is a NaN, below zero or an infinity.
 pub fn sqrt(x: f32, out: &mut u32) -> u32
     ensures { λ code. ⌜ Ends floatBits (Sqrt x) code (now (out .entry)) (now (out .exit)) ⌝ }
 {
-    let b = fixed::bits_of(x);
+    if x != x {
+        return 1;
+    }
+    let b = f32::to_bits(x);
     if b % 0x8000_0000 == 0 {
         *out = b;
         return 0;
@@ -54,20 +57,20 @@ pub fn sqrt(x: f32, out: &mut u32) -> u32
     1
 }
 
-// (2 h + 1)^2 m in steps of 2 ^ 32, cut off: the product has up to 78 digits, and is taken in two limbs.
-fn odd_square(h: u64, m: u64) -> u64
+// (2 h + 1)^2 m in steps of 2 ^ 64, cut off: the product has up to 78 digits, and is taken in two limbs.
+fn odd_square(h: u32, m: u32) -> u32
     requires { ⌜ (h < 2 ^ 26) × (m < 2 ^ 24) ⌝ }
-    ensures { λ r. ⌜ r ≡ (2 * h + 1) * (2 * h + 1) * m / 4294967296 ⌝ }
+    ensures { λ r. ⌜ r ≡ (2 * h + 1) * (2 * h + 1) * m / 18446744073709551616 ⌝ }
 {
-    let o = 2 * h + 1;
+    let o = (2 * h + 1) as u64;
     let a = o * o;
-    a / 4294967296 * m + a % 4294967296 * m / 4294967296
+    ((a / 4294967296 * (m as u64) + a % 4294967296 * (m as u64) / 4294967296) / 4294967296) as u32
 }
 
-// The whole number nearest to the root of t 2 ^ 30 / m, whatever the guess: the tests of the two loops are the statement.
-fn settle_reciprocal(m: u64, t: u64, guess: u64) -> u64
-    requires { ⌜ (2 ^ 23 ≤ m) × (m < 2 ^ 24) × (1 ≤ t) × (t ≤ 2 ^ 41) × (guess < 2 ^ 26) ⌝ }
-    ensures { λ h. ⌜ IsNearRecip (t * 2 ^ 30) m h ⌝ }
+// The whole number nearest to the root of t 2 ^ 62 / m, whatever the guess: the tests of the two loops are the statement.
+fn settle_reciprocal(m: u32, t: u32, guess: u32) -> u32
+    requires { ⌜ (2 ^ 23 ≤ m) × (m < 2 ^ 24) × (1 ≤ t) × (t ≤ 2 ^ 9) × (guess < 2 ^ 26) ⌝ }
+    ensures { λ h. ⌜ IsNearRecip (t * 2 ^ 62) m h ⌝ }
 {
     let mut h = guess;
     while odd_square(h, m) < t {
@@ -88,16 +91,19 @@ fn reciprocal_bits(x: f32) -> u32
     let m = p.m;
     let e = p.e;
     let k = 401 - e;
-    let t = 1 << (40 + k % 2);
-    let h = settle_reciprocal(m as u64, t, guess::reciprocal(m, e));
-    k / 2 * 8388608 + h as u32
+    let t = 1 << (8 + k % 2);
+    let h = settle_reciprocal(m, t, guess::reciprocal(m, e));
+    k / 2 * 8388608 + h
 }
 
 // The nearest float to 1 over the root of x; code 1 and nothing written where x is a NaN, at most zero or an infinity.
 pub fn rsqrt(x: f32, out: &mut u32) -> u32
     ensures { λ code. ⌜ Ends floatBits (Rsqrt x) code (now (out .entry)) (now (out .exit)) ⌝ }
 {
-    let b = fixed::bits_of(x);
+    if x != x {
+        return 1;
+    }
+    let b = f32::to_bits(x);
     if 0 < b && b < 0x7f80_0000 {
         *out = reciprocal_bits(x);
         return 0;

@@ -62,7 +62,7 @@ rnd-scale n c t C h =
 
 -- ---- no number of 24 digits is nearer
 -- how many whole steps there are in n / c
-abbrev steps : ℕ → ℕ → ℕ
+abbrev pub steps : ℕ → ℕ → ℕ
 steps n c = n / (c * 2 ^ drop 24 n c)
 
 module _ (n c q j : ℕ) (C : 0 < c) (h : q ≤ 2 ^ 24) where
@@ -80,7 +80,7 @@ module _ (n c q j : ℕ) (C : 0 < c) (h : q ≤ 2 ^ 24) where
   coarser : drop 24 n c ≤ j → q * 2 ^ j ≡ q * 2 ^ (j - drop 24 n c) * 2 ^ drop 24 n c
   coarser l = let k = drop 24 n c in ap (λ (x : ℕ). q * x) (ap (λ (x : ℕ). 2 ^ x) (sym (back j k l)) ∙ pow-add 2 (j - k) k) ∙ sym (mul-assoc q (2 ^ (j - k)) (2 ^ k))
 
-  below : q * 2 ^ j * c ≤ n → q * 2 ^ j ≤ steps n c * 2 ^ drop 24 n c
+  pub below : q * 2 ^ j * c ≤ n → q * 2 ^ j ≤ steps n c * 2 ^ drop 24 n c
   below g = elim (le-or-lt (drop 24 n c) j) [
     | inl l ↦
         let k = drop 24 n c in
@@ -89,7 +89,7 @@ module _ (n c q j : ℕ) (C : 0 < c) (h : q ≤ 2 ^ 24) where
     | inr l ↦ finer l
   ]
 
-  above : n < q * 2 ^ j * c → suc (steps n c) * 2 ^ drop 24 n c ≤ q * 2 ^ j
+  pub above : n < q * 2 ^ j * c → suc (steps n c) * 2 ^ drop 24 n c ≤ q * 2 ^ j
   above g = elim (le-or-lt (drop 24 n c) j) [
     | inl l ↦
         let k = drop 24 n c in
@@ -109,7 +109,7 @@ outside r a e y n d (inr p) l m f g (inl b) = omega arith
 outside r a e y n d (inr p) l m f g (inr b) = omega arith
 
 -- the rounding is the whole steps, or one more
-one-of-two : (n c : ℕ) → (rnd n c * c ≡ steps n c * (c * 2 ^ drop 24 n c)) ⊎ (rnd n c * c ≡ steps n c * (c * 2 ^ drop 24 n c) + c * 2 ^ drop 24 n c)
+pub one-of-two : (n c : ℕ) → (rnd n c * c ≡ steps n c * (c * 2 ^ drop 24 n c)) ⊎ (rnd n c * c ≡ steps n c * (c * 2 ^ drop 24 n c) + c * 2 ^ drop 24 n c)
 unfolding rnd
 one-of-two n c =
     let k = drop 24 n c in

@@ -38,7 +38,7 @@ half q r b Ordering·lt l g e h = let x = l tt in omega arith
 half q r b Ordering·eq l g e h = tie q (q % 2) r b (omega arith) (e tt)
 half q r b Ordering·gt l g e h = let x = g tt in omega arith
 
-closest-half : (a b : ℕ) → 0 < b → Near (2 * (closest a b * b)) (2 * a) b
+pub closest-half : (a b : ℕ) → 0 < b → Near (2 * (closest a b * b)) (2 * a) b
 closest-half a b h =
     rw div-add-mod' at (half (a / b) (a % b) b (compare (a % b * 2) b) (leb→le (a % b * 2) b) (nleb→lt (a % b * 2) b) (eqb→eq (a % b * 2) b) (mod-lt a h))
 
@@ -46,7 +46,7 @@ closest-half a b h =
 size-mono : (a b : ℕ) → a ≤ b → size a ≤ size b
 size-mono a b h = size-le a (size b) (lt-of-le-of-lt h (size-lt b))
 
-kept-le : (n c : ℕ) → kept 24 n c ≤ 2 ^ 24
+pub kept-le : (n c : ℕ) → kept 24 n c ≤ 2 ^ 24
 kept-le n c =
     let k = drop 24 n c in
     let u = c * 2 ^ k in

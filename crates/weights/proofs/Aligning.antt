@@ -6,6 +6,7 @@ use native.Mathlib.Nat.{le-trans, lt-of-lt-of-le, le-of-mul-le-mul-right, mul-le
 use native.Mathlib.Omega.{arith}
 use lib.Pow.{pow-pos, pow-mono}
 use Rattle.units.proofs.Naturals.{pow-split}
+use Rattle.powers.specs.Base.{Base}
 use Rattle.powers.specs.Fixed.{fixedDigits, fixedExponent, fixedPower}
 use lib.Ieee.{Float}
 use Rattle.weights.specs.Lists.{at, sum}
@@ -48,18 +49,18 @@ module _ (r E e : ℕ) (up : E ≤ e) (small : r ≤ 2 ^ 33) where
   digits-far far = div-eq-of-lt (lt-of-lt-of-le (omega arith) (pow-mono {i = 64} {j = e - E} far))
 
 -- of an element
-module _ (x : Float) (a : Element x) (e : ℕ) (up : fixedExponent x ≤ e) where
-  share-aligned : Aligned (fixedPower x) e 1 (shareOf e x)
+module _ (base : Base) (x : Float) (a : Element x) (e : ℕ) (up : fixedExponent base x ≤ e) where
+  share-aligned : Aligned (fixedPower base x) e 1 (shareOf base e x)
   unfolding shareOf
-  share-aligned = digits-aligned (fixedDigits x) (fixedExponent x) e up (power x a .most)
+  share-aligned = digits-aligned (fixedDigits base x) (fixedExponent base x) e up (power x a base .most)
 
-  share-few : shareOf e x ≤ 2 ^ 53 + 1
+  share-few : shareOf base e x ≤ 2 ^ 53 + 1
   unfolding shareOf
-  share-few = omega (arith, digits-few (fixedDigits x) (fixedExponent x) e up (power x a .most))
+  share-few = omega (arith, digits-few (fixedDigits base x) (fixedExponent base x) e up (power x a base .most))
 
-  pub share-far : 64 ≤ e - fixedExponent x → shareOf e x ≡ 1
+  pub share-far : 64 ≤ e - fixedExponent base x → shareOf base e x ≡ 1
   unfolding shareOf
-  share-far far = rw (digits-far (fixedDigits x) (fixedExponent x) e up (power x a .most) far)
+  share-far far = rw (digits-far (fixedDigits base x) (fixedExponent base x) e up (power x a base .most) far)
 
 -- ---- their sum
 -- nothing yet
@@ -77,16 +78,16 @@ aligned-more p p′ e k s s′ a b = record { least = added (2 ^ e) (a .least) (
     in-all U h g = omega arith
 
 -- all of them
-pub sum-aligned : (xs : List Float) (e n : ℕ) → ((i : ℕ) → i < n → Element (at xs i) × (fixedExponent (at xs i) ≤ e)) → Aligned (sum (powerAt xs) n) e n (sum (shareAt e xs) n)
+pub sum-aligned : (base : Base) (xs : List Float) (e n : ℕ) → ((i : ℕ) → i < n → Element (at xs i) × (fixedExponent base (at xs i) ≤ e)) → Aligned (sum (powerAt base xs) n) e n (sum (shareAt base e xs) n)
 unfolding sum
-sum-aligned xs e zero all = aligned-none e
-sum-aligned xs e (suc n) all =
+sum-aligned base xs e zero all = aligned-none e
+sum-aligned base xs e (suc n) all =
     let (a, up) = all n (omega arith) in
-    aligned-more _ _ e n _ _ (sum-aligned xs e n (λ i h. all i (omega arith))) (share-aligned (at xs n) a e up)
+    aligned-more _ _ e n _ _ (sum-aligned base xs e n (λ i h. all i (omega arith))) (share-aligned base (at xs n) a e up)
 
 -- 1,024 of them fit a word
-pub sum-fits : (xs : List Float) (e n : ℕ) → n ≤ 1024 → ((i : ℕ) → i < n → Element (at xs i) × (fixedExponent (at xs i) ≤ e)) → sum (shareAt e xs) n < 2 ^ 64
-sum-fits xs e n few all = room (sum (shareAt e xs) n) (sum-few (shareAt e xs) n (2 ^ 53 + 1) (λ i h. share-few (at xs i) (all i h .0) e (all i h .1)))
+pub sum-fits : (base : Base) (xs : List Float) (e n : ℕ) → n ≤ 1024 → ((i : ℕ) → i < n → Element (at xs i) × (fixedExponent base (at xs i) ≤ e)) → sum (shareAt base e xs) n < 2 ^ 64
+sum-fits base xs e n few all = room (sum (shareAt base e xs) n) (sum-few (shareAt base e xs) n (2 ^ 53 + 1) (λ i h. share-few base (at xs i) (all i h .0) e (all i h .1)))
   where
     room : (t : ℕ) → t ≤ n * (2 ^ 53 + 1) → t < 2 ^ 64
     room t h = omega (arith, mul-le-mul-right (2 ^ 53 + 1) few)

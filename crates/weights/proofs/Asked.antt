@@ -12,8 +12,9 @@ use lib.ListN.{length}
 use lib.Ieee.{Float}
 use Rattle.units.specs.Units.{P}
 use Rattle.units.proofs.Naturals.{le-or-lt}
-use Rattle.exact.proofs.Power.{most-of-less, least-of-more}
+use Rattle.powers.specs.Base.{Base}
 use Rattle.powers.specs.Fixed.{fixedAbove, fixedBelow}
+use Rattle.powers.proofs.Base.{power-most-of-less, power-least-of-more}
 use Rattle.weights.specs.Lists.{at, sum}
 use Rattle.weights.specs.Softmax.{Elements, Encloses, NearQuotients, Whole, softmaxErrorNum, softmaxErrorDen, wholeErrorNum, wholeErrorDen}
 use Rattle.weights.specs.Value.{powerAt}
@@ -93,17 +94,17 @@ module _ (p l u L R M b : ℕ) (fine : b ≤ 2 ^ 23) where
       closer a R g h = omega arith
 
 -- ---- the powers in fixed point enclose the real powers
-module _ (xs : List Float) (all : Elements xs) where
+module _ (base : Base) (xs : List Float) (all : Elements xs) where
   abbrev below : ℕ → ℕ
-  below j = D * D * powerAt xs j
+  below j = D * D * powerAt base xs j
 
   abbrev above : ℕ → ℕ
-  above j = k * powerAt xs j
+  above j = k * powerAt base xs j
 
-  own : Encloses xs below above (D * (D + fixedAbove) * 2 ^ 158)
+  own : Encloses base xs below above (D * (D + fixedAbove) * 2 ^ 158)
   own = record {
-    below = λ j h. most-of-less (lit< tt) (le-of-eq (under D (D + fixedAbove) (2 ^ 158) (powerAt xs j))) (power (at xs j) (all .each j h) .at-most);
-    above = λ j h. least-of-more (lit< tt) (le-of-eq (over D (D + fixedBelow) (D + fixedAbove) (2 ^ 158) (powerAt xs j))) (power (at xs j) (all .each j h) .at-least);
+    below = λ j h. power-most-of-less (lit< tt) (le-of-eq (under D (D + fixedAbove) (2 ^ 158) (powerAt base xs j))) (power (at xs j) (all .each j h) base .at-most);
+    above = λ j h. power-least-of-more (lit< tt) (le-of-eq (over D (D + fixedBelow) (D + fixedAbove) (2 ^ 158) (powerAt base xs j))) (power (at xs j) (all .each j h) base .at-least);
   }
     where
       under : (D c B t : ℕ) → D * D * t * (c * B) ≡ D * t * (D * c * B)
@@ -113,44 +114,44 @@ module _ (xs : List Float) (all : Elements xs) where
       over D c e B t = omega arith
 
   -- a family in proportion has its sum in proportion
-  sum-most : (c : ℕ) → sum (λ j. c * powerAt xs j) (length xs) ≤ c * sum (powerAt xs) (length xs)
-  sum-most c = let h = sum-le (λ j. c * powerAt xs j) (powerAt xs) 1 c (length xs) (λ j l. omega arith) in omega arith
+  sum-most : (c : ℕ) → sum (λ j. c * powerAt base xs j) (length xs) ≤ c * sum (powerAt base xs) (length xs)
+  sum-most c = let h = sum-le (λ j. c * powerAt base xs j) (powerAt base xs) 1 c (length xs) (λ j l. omega arith) in omega arith
 
-  sum-least : (c : ℕ) → c * sum (powerAt xs) (length xs) ≤ sum (λ j. c * powerAt xs j) (length xs)
-  sum-least c = let h = sum-le (powerAt xs) (λ j. c * powerAt xs j) c 1 (length xs) (λ j l. omega arith) in omega arith
+  sum-least : (c : ℕ) → c * sum (powerAt base xs) (length xs) ≤ sum (λ j. c * powerAt base xs j) (length xs)
+  sum-least c = let h = sum-le (powerAt base xs) (λ j. c * powerAt base xs j) c 1 (length xs) (λ j l. omega arith) in omega arith
 
-  module _ (ps : List Float) (near : NearQuotients softmaxErrorNum softmaxErrorDen xs ps) (i : ℕ) (h : i < length xs) where
+  module _ (ps : List Float) (near : NearQuotients base softmaxErrorNum softmaxErrorDen xs ps) (i : ℕ) (h : i < length xs) where
     abbrev p : ℕ
     p = P (at ps i)
 
     abbrev T : ℕ
-    T = sum (powerAt xs) (length xs)
+    T = sum (powerAt base xs) (length xs)
 
-    positive : 0 < powerAt xs i
-    positive = mul-pos (lt-of-lt-of-le (lit< tt) (power (at xs i) (all .each i h) .least)) (pow-pos _)
+    positive : 0 < powerAt base xs i
+    positive = mul-pos (lt-of-lt-of-le (lit< tt) (power (at xs i) (all .each i h) base .least)) (pow-pos _)
 
     -- p_i where q_i is at least 2 ^ -100
-    output-large : QuotientAtLeast xs i → 2 ^ 48 ≤ p + 1
+    output-large : QuotientAtLeast base xs i → 2 ^ 48 ≤ p + 1
     output-large q =
-        large (p + 1) (powerAt xs i) T positive
+        large (p + 1) (powerAt base xs i) T positive
         (le-trans (near .least below above _ own i h) (mul-le-mul-left softmaxErrorDen (mul-le-mul-left (p + 1) (sum-most k)))) (le-trans (sum-least (D * D)) (q .holds below above _ own))
 
     -- and where it is at most that
-    output-small : QuotientAtMost xs i → p ≤ 2 ^ 50
+    output-small : QuotientAtMost base xs i → p ≤ 2 ^ 50
     output-small q =
-        small p (powerAt xs i) T (lt-of-lt-of-le positive (member (powerAt xs) (length xs) i h))
+        small p (powerAt base xs i) T (lt-of-lt-of-le positive (member (powerAt base xs) (length xs) i h))
         (le-trans (mul-le-mul-left softmaxErrorDen (mul-le-mul-left p (sum-least (D * D)))) (near .most below above _ own i h)) (le-trans (q .holds below above _ own) (sum-most k))
 
 -- ---- the laws: from the promise to what is asked
 -- rel 1 / b where q_i ≥ 2 ^ -100, otherwise abs 2 ^ -100, for every b up to 2 ^ 23
-pub as-asked : (b : ℕ) → b ≤ 2 ^ 23 → (xs ps : List Float) → Elements xs → NearQuotients softmaxErrorNum softmaxErrorDen xs ps → Asked b xs ps
-as-asked b fine xs ps all near = record {
+pub as-asked : (base : Base) (b : ℕ) → b ≤ 2 ^ 23 → (xs ps : List Float) → Elements xs → NearQuotients base softmaxErrorNum softmaxErrorDen xs ps → Asked base b xs ps
+as-asked base b fine xs ps all near = record {
   relative = λ i h q. record {
     most = λ l u d e. relative-most (P (at ps i)) (l i) (u i) (sum l (length xs)) (sum u (length xs)) (2 ^ 149) b fine (near .most l u d e i h);
-    least = λ l u d e. relative-least (P (at ps i)) (l i) (u i) (sum l (length xs)) (sum u (length xs)) (2 ^ 149) b fine (output-large xs all ps near i h q) (near .least l u d e i h);
+    least = λ l u d e. relative-least (P (at ps i)) (l i) (u i) (sum l (length xs)) (sum u (length xs)) (2 ^ 149) b fine (output-large base xs all ps near i h q) (near .least l u d e i h);
   };
   absolute = λ i h q. record {
-    most = λ l u d e. absolute-most (P (at ps i)) (l i) (u i) (sum l (length xs)) (sum u (length xs)) (2 ^ 149) b fine (output-small xs all ps near i h q) (near .most l u d e i h);
+    most = λ l u d e. absolute-most (P (at ps i)) (l i) (u i) (sum l (length xs)) (sum u (length xs)) (2 ^ 149) b fine (output-small base xs all ps near i h q) (near .most l u d e i h);
     least = λ l u d e. absolute-least (P (at ps i)) (l i) (u i) (sum l (length xs)) (sum u (length xs)) (2 ^ 149) b fine (scaled (l i) (2 ^ 100) (2 ^ 49) (sum u (length xs)) (q .holds l u d e)) (near .least l u d e i h);
   };
 }
@@ -172,5 +173,5 @@ whole-as-asked b fine ps w = record {
     below W M h = ratio-weaker M W (wholeErrorDen - wholeErrorNum) wholeErrorDen (b - 1) b (lit< tt) (omega arith) (omega arith)
 
 -- change request Q3's two numbers, rel 2 ^ -17 and 2 ^ -20 for the sum of all p_i; document 01 had 2 ^ -13 for both
-pub as-asked-in-pairs : (xs ps : List Float) → Elements xs → NearQuotients softmaxErrorNum softmaxErrorDen xs ps → Whole wholeErrorNum wholeErrorDen ps → Asked (2 ^ 17) xs ps × Whole 1 (2 ^ 20) ps
-as-asked-in-pairs xs ps all near whole = (as-asked (2 ^ 17) (lit≤ tt) xs ps all near, whole-as-asked (2 ^ 20) (lit≤ tt) ps whole)
+pub as-asked-in-pairs : (base : Base) (xs ps : List Float) → Elements xs → NearQuotients base softmaxErrorNum softmaxErrorDen xs ps → Whole wholeErrorNum wholeErrorDen ps → Asked base (2 ^ 17) xs ps × Whole 1 (2 ^ 20) ps
+as-asked-in-pairs base xs ps all near whole = (as-asked base (2 ^ 17) (lit≤ tt) xs ps all near, whole-as-asked (2 ^ 20) (lit≤ tt) ps whole)

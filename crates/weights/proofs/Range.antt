@@ -1,4 +1,4 @@
--- The test of an element's pattern accepts the finite floats from -64 to 64, and no others; 2 ^ x accepts every such float, with an exponent from 62 to 190. Assumes nothing.
+-- The test of an element's pattern accepts the finite floats from -64 to 64, and no others; the powers of both bases accept every such float, with an exponent from 33 to 218. Assumes nothing.
 use mathlib.Core.Path.{_≡_, sym, _∙_, subst}
 use mathlib.Core.Logic.{inr}
 use mathlib.Core.Bool.{Bool, not}
@@ -14,8 +14,9 @@ use Rattle.units.specs.Tests.{Tells}
 use Rattle.units.proofs.Patterns.{Shape, within, beyond, pattern-back}
 use Rattle.units.proofs.Between.{size-between, between-size}
 use Rattle.fixed.proofs.Take.{no-nan}
-use Rattle.powers.specs.Exp2 as exp2
-use Rattle.powers.specs.Fixed.{fixedDigits, fixedExponent, FixedExp2}
+use Rattle.powers.specs.Exp as exp
+use Rattle.powers.specs.Base.{Base}
+use Rattle.powers.specs.Fixed.{fixedExponent, FixedPower}
 use Rattle.powers.proofs.Fixed.{fixed, exponent-least, exponent-most}
 use Rattle.weights.specs.Softmax.{Element}
 
@@ -47,16 +48,16 @@ module _ (b : ℕ) where
     }
 
 module _ (x : Float) (a : Element x) where
-  -- 2 ^ x accepts it
-  pub power-accepts : exp2.Accepts x
+  -- the powers accept it
+  pub power-accepts : exp.Accepts x
   power-accepts = record { number = a .number; at-least = le-trans (a .at-least) (lit≤ tt); at-most = le-trans (a .at-most) (lit≤ tt) }
 
   -- the power in fixed point
-  pub power : FixedExp2 x (fixedDigits x) (fixedExponent x)
-  power = fixed x power-accepts
+  pub power : (base : Base) → FixedPower base x
+  power base = fixed base x power-accepts
 
-  pub exponent-low : 62 ≤ fixedExponent x
-  exponent-low = exponent-least x 64 (a .at-least)
+  pub exponent-low : (base : Base) → 33 ≤ fixedExponent base x
+  exponent-low base = exponent-least base x (a .at-least)
 
-  pub exponent-high : fixedExponent x ≤ 190
-  exponent-high = exponent-most x 64 (a .at-most)
+  pub exponent-high : (base : Base) → fixedExponent base x ≤ 218
+  exponent-high base = exponent-most base x (a .at-most)

@@ -4,7 +4,7 @@ use mathlib.Core.Path.{_≡_, refl, sym, ap, _∙_}
 use mathlib.Core.Logic.{inl, inr}
 use mathlib.Core.Bool.{false, cond}
 use Prim.Native.Nat.{ℕ, _+_, _-_, _*_, _/_, _^_, _≤_, _<_}
-use native.Mathlib.Nat.{le-trans, le-of-eq, le-of-lt, zero-mul, zero-add, pow-zero, lt-of-le-of-lt, lt-of-lt-of-le, mul-assoc, mul-right-comm, mul-one, mul-pos, mul-le-mul-left, mul-le-mul-right, mul-lt-mul-of-pos-right, le-of-mul-le-mul-right, lt-of-mul-lt-mul-right, div-mul-le-self, lt-div-mul-add}
+use native.Mathlib.Nat.{le-trans, le-of-eq, le-of-lt, zero-mul, zero-add, pow-zero, lt-of-le-of-lt, lt-of-lt-of-le, mul-assoc, mul-right-comm, mul-one, mul-pos, mul-le-mul-left, mul-le-mul-right, mul-lt-mul-of-pos-right, le-of-mul-le-mul-right, lt-of-mul-lt-mul-right, div-mul-le-self, lt-div-mul-add, div-eq-of-lt}
 use native.Mathlib.Omega.{arith}
 use lib.Dec.{ltb, lit≤}
 use lib.Pow.{pow-add, pow-pos, pow-mono}
@@ -148,6 +148,10 @@ module _ (n E c : ℕ) (p : Placed n E c) where
       where
         small : (s h : ℕ) → s * h ≤ n → 2 ^ 40 ≤ h → n < 2 ^ 64 → s < 2 ^ 24
         small s h a b d = omega (arith, mul-le-mul-left s b)
+
+    -- nothing is left behind 64 places
+    pub few-none : 64 ≤ c + 40 - e → S ≡ 0
+    few-none far = div-eq-of-lt (lt-of-lt-of-le (p .most) (pow-mono {i = 64} {j = c + 40 - e} far))
 
   -- ---- both
   -- the error: one part in 2 ^ 24, and from below one unit

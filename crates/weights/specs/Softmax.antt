@@ -1,12 +1,12 @@
--- The promise of softmax, base two. Definitions only.
+-- The promise of softmax, base two or e. Definitions only.
 use mathlib.Core.Path.{_≡_}
 use mathlib.Core.List.{List, map}
 use mathlib.Core.Bool.{false}
 use Prim.Native.Nat.{ℕ, _+_, _-_, _*_, _^_, _≤_, _<_}
 use lib.ListN.{length}
 use lib.Ieee.{Float, binary32, ofBits}
-use Rattle.units.specs.Units.{P, N, negative, Number, Between, Le}
-use Rattle.exact.specs.Power.{AtMost, AtLeast}
+use Rattle.units.specs.Units.{P, negative, Number, Between, Le}
+use Rattle.powers.specs.Base.{Base, PowerAtMost, PowerAtLeast}
 use Rattle.weights.specs.Lists.{at, sum}
 use Rattle.weights.specs.Value.{softmaxOf}
 
@@ -34,17 +34,17 @@ pub record Accepts (xs : List Float) (n : ℕ) : Type 0 where
 abbrev pub floatsOf : List ℕ → List Float
 floatsOf = map (ofBits binary32)
 
--- ---- the exact value 2 ^ x_i / (sum of 2 ^ x_j)
--- fractions over one denominator that enclose the powers: l_j / d ≤ 2 ^ x_j ≤ u_j / d. There are such for every d, with u_j = l_j + 1 (proofs/Enclosures)
-pub record Encloses (xs : List Float) (l u : ℕ → ℕ) (d : ℕ) : Type 0 where
-  pub below : (j : ℕ) → j < length xs → AtMost (l j) d (P (at xs j)) (N (at xs j)) (2 ^ 149)
-  pub above : (j : ℕ) → j < length xs → AtLeast (u j) d (P (at xs j)) (N (at xs j)) (2 ^ 149)
+-- ---- the exact value b ^ x_i / (sum of b ^ x_j), of the base b = 2 or e
+-- fractions over one denominator that enclose the powers: l_j / d ≤ b ^ x_j ≤ u_j / d. There are such for every d, with u_j = l_j + 2 (proofs/Enclosures)
+pub record Encloses (base : Base) (xs : List Float) (l u : ℕ → ℕ) (d : ℕ) : Type 0 where
+  pub below : (j : ℕ) → j < length xs → PowerAtMost base (l j) d (at xs j)
+  pub above : (j : ℕ) → j < length xs → PowerAtLeast base (u j) d (at xs j)
 
 -- every p_i is within a / b, relatively, and from below one least float, of the exact value: for every enclosure
 -- p_i ≤ (1 + a / b) u_i / (sum of l_j) and (1 - a / b) l_i / (sum of u_j) ≤ p_i + 2 ^ -149
-pub record NearQuotients (a b : ℕ) (xs ps : List Float) : Type 0 where
-  pub most : (l u : ℕ → ℕ) (d : ℕ) → Encloses xs l u d → (i : ℕ) → i < length xs → b * (P (at ps i) * sum l (length xs)) ≤ (b + a) * (u i * 2 ^ 149)
-  pub least : (l u : ℕ → ℕ) (d : ℕ) → Encloses xs l u d → (i : ℕ) → i < length xs → (b - a) * (l i * 2 ^ 149) ≤ b * ((P (at ps i) + 1) * sum u (length xs))
+pub record NearQuotients (base : Base) (a b : ℕ) (xs ps : List Float) : Type 0 where
+  pub most : (l u : ℕ → ℕ) (d : ℕ) → Encloses base xs l u d → (i : ℕ) → i < length xs → b * (P (at ps i) * sum l (length xs)) ≤ (b + a) * (u i * 2 ^ 149)
+  pub least : (l u : ℕ → ℕ) (d : ℕ) → Encloses base xs l u d → (i : ℕ) → i < length xs → (b - a) * (l i * 2 ^ 149) ≤ b * ((P (at ps i) + 1) * sum u (length xs))
 
 -- the exact sum of all p_i is within a / b of 1
 pub record Whole (a b : ℕ) (ps : List Float) : Type 0 where
@@ -72,7 +72,7 @@ abbrev pub wholeErrorDen : ℕ
 wholeErrorDen = 2 ^ 32
 
 -- the whole promise: xs, with room for n outputs, is answered by a code and the outputs ps
-pub record Softmax2 (xs : List Float) (n code : ℕ) (ps : List Float) : Type 0 where
+pub record Softmax (base : Base) (xs : List Float) (n code : ℕ) (ps : List Float) : Type 0 where
   -- code 2, BAD_LENGTH, for lists of different length, of none or of more than 1,024 elements
   pub bad-length : ¬ Lengths xs n → code ≡ 2
   -- else code 1, OUT_OF_RANGE, where an element is not from -64 to 64
@@ -80,12 +80,12 @@ pub record Softmax2 (xs : List Float) (n code : ℕ) (ps : List Float) : Type 0 
   -- all else is success
   pub success : Accepts xs n → code ≡ 0
   -- the outputs are a value of the inputs alone
-  pub value : Accepts xs n → ps ≡ softmaxOf xs
+  pub value : Accepts xs n → ps ≡ softmaxOf base xs
   -- one for each input, from 0 to 1
   pub as-many : Accepts xs n → length ps ≡ length xs
   pub inside : Accepts xs n → (i : ℕ) → i < length xs → Inside (at ps i)
   -- within 273 / 2 ^ 32 of the real quotient, relatively, and from below one least float
-  pub near : Accepts xs n → NearQuotients softmaxErrorNum softmaxErrorDen xs ps
+  pub near : Accepts xs n → NearQuotients base softmaxErrorNum softmaxErrorDen xs ps
   -- a larger input never gets a smaller output
   pub order : Accepts xs n → (i j : ℕ) → i < length xs → j < length xs → Le (at xs i) (at xs j) → Le (at ps i) (at ps j)
   -- equal inputs get equal outputs

@@ -1,4 +1,4 @@
--- What the program computes for softmax. A reader of the promise need not read this: Softmax2 names `softmaxOf` and says all that is promised of it. Definitions only.
+-- What the program computes for softmax, of either base. A reader of the promise need not read this: Softmax names `softmaxOf` and says all that is promised of it. Definitions only.
 use mathlib.Core.Bool.{cond}
 use mathlib.Core.List.{List, map}
 use Prim.Native.Nat.{ℕ, zero, suc, _+_, _-_, _*_, _/_, _^_}
@@ -8,6 +8,7 @@ use lib.ListN.{length}
 use lib.Ieee.{Float, binary32, ofBits}
 use Rattle.units.specs.Answers.{floatBits}
 use Rattle.fixed.specs.Rounded.{nearestBits}
+use Rattle.powers.specs.Base.{Base}
 use Rattle.powers.specs.Fixed.{fixedDigits, fixedExponent, fixedPower}
 use Rattle.weights.specs.Lists.{at, sum}
 
@@ -40,35 +41,35 @@ topKey xs = largest (keyAt xs) (length xs)
 unfoldable pub topOf : List Float → Float
 topOf xs = ofBits binary32 (patternOf (topKey xs))
 
-abbrev pub topExponent : List Float → ℕ
-topExponent xs = fixedExponent (topOf xs)
+abbrev pub topExponent : Base → List Float → ℕ
+topExponent base xs = fixedExponent base (topOf xs)
 
 -- ---- the sum of the powers
 -- each a whole number of 2 ^ -158
-abbrev pub powerAt : List Float → ℕ → ℕ
-powerAt xs i = fixedPower (at xs i)
+abbrev pub powerAt : Base → List Float → ℕ → ℕ
+powerAt base xs i = fixedPower base (at xs i)
 
--- 2 ^ x in steps of 2 ^ (e - 178), what is left of its digits and one step more
-unfoldable pub shareOf : ℕ → Float → ℕ
-shareOf e x = fixedDigits x * 1048576 / 2 ^ (e - fixedExponent x) + 1
+-- the power of x in steps of 2 ^ (e - 178), what is left of its digits and one step more
+unfoldable pub shareOf : Base → ℕ → Float → ℕ
+shareOf base e x = fixedDigits base x * 1048576 / 2 ^ (e - fixedExponent base x) + 1
 
-abbrev pub shareAt : ℕ → List Float → ℕ → ℕ
-shareAt e xs i = shareOf e (at xs i)
+abbrev pub shareAt : Base → ℕ → List Float → ℕ → ℕ
+shareAt base e xs i = shareOf base e (at xs i)
 
 -- the sum of all of them
-unfoldable pub totalOf : List Float → ℕ
-totalOf xs = sum (shareAt (topExponent xs) xs) (length xs)
+unfoldable pub totalOf : Base → List Float → ℕ
+totalOf base xs = sum (shareAt base (topExponent base xs) xs) (length xs)
 
 -- ---- its reciprocal, r * 2 ^ -c up to a constant
 -- 31 digits of one over a number s of 64 - z digits
 unfoldable pub inverseOf : ℕ → ℕ → ℕ
 inverseOf s z = 4611686018427387904 / (s * 2 ^ z / 4294967296 + 1)
 
-unfoldable pub factorOf : List Float → ℕ
-factorOf xs = inverseOf (totalOf xs) (leadingZeros 64 (totalOf xs))
+unfoldable pub factorOf : Base → List Float → ℕ
+factorOf base xs = inverseOf (totalOf base xs) (leadingZeros 64 (totalOf base xs))
 
-unfoldable pub placesOf : List Float → ℕ
-placesOf xs = topExponent xs - leadingZeros 64 (totalOf xs)
+unfoldable pub placesOf : Base → List Float → ℕ
+placesOf base xs = topExponent base xs - leadingZeros 64 (totalOf base xs)
 
 -- ---- the weights
 -- n 2 ^ (e - 40 - c) units as a bit pattern: rounded to 24 digits, or, where there are no more than these, cut off to a whole unit
@@ -76,12 +77,12 @@ unfoldable pub unitBits : ℕ → ℕ → ℕ → ℕ
 unitBits n e c = cond (ltb c e) (nearestBits n (e - c)) (n / 2 ^ (c + 40 - e))
 
 -- the power of x, scaled by r and c
-unfoldable pub weightBits : ℕ → ℕ → Float → ℕ
-weightBits r c x = unitBits (fixedDigits x * r) (fixedExponent x + 115) c
+unfoldable pub weightBits : Base → ℕ → ℕ → Float → ℕ
+weightBits base r c x = unitBits (fixedDigits base x * r) (fixedExponent base x + 115) c
 
-unfoldable pub weightOf : ℕ → ℕ → Float → Float
-weightOf r c x = ofBits binary32 (weightBits r c x)
+unfoldable pub weightOf : Base → ℕ → ℕ → Float → Float
+weightOf base r c x = ofBits binary32 (weightBits base r c x)
 
 -- of every element
-unfoldable pub softmaxOf : List Float → List Float
-softmaxOf xs = map (weightOf (factorOf xs) (placesOf xs)) xs
+unfoldable pub softmaxOf : Base → List Float → List Float
+softmaxOf base xs = map (weightOf base (factorOf base xs) (placesOf base xs)) xs

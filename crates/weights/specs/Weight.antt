@@ -27,7 +27,7 @@ pub record IsJudged (xs : List Float) (ok : Bool) (top : ℕ) : Type 0 where
 pub record Scaling (r c : ℕ) : Type 0 where
   pub least : 2 ^ 30 ≤ r
   pub most : r < 2 ^ 31
-  pub high : c ≤ 190
+  pub high : c ≤ 218
 
 -- a power t is scaled to t r 2 ^ (75 - c) units: at most 2 ^ 149 of them, or 1
 abbrev pub AtMostOne : ℕ → ℕ → ℕ → Type 0

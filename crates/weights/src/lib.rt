@@ -1,4 +1,4 @@
-// Softmax, base two: the powers as whole numbers, one sum of them, one division, and one rounding for each output.
+// Softmax: the powers of 2, or of e where `natural`, as whole numbers, one sum of them, one division, and one rounding for each output.
 // The list that is weighed is x; where x is empty, it is the floats whose patterns p holds, and they are weighed in place.
 
 ghost use mathlib.Core.Path.{_≡_};
@@ -9,9 +9,10 @@ ghost use lib.ListN.{length};
 ghost use lib.Ieee.{binary32, ofBits};
 ghost use Rattle.units.specs.Answers.{Ends, listBits};
 ghost use Rattle.units.specs.Tests.{Tells};
+ghost use Rattle.powers.specs.Base.{two, natural};
 ghost use Rattle.powers.specs.Fixed.{fixedExponent, fixedPower};
 ghost use Rattle.weights.specs.Lists.{at, sum};
-ghost use Rattle.weights.specs.Softmax.{Element, Elements, floatsOf, Softmax2};
+ghost use Rattle.weights.specs.Softmax.{Element, Elements, floatsOf, Softmax};
 ghost use Rattle.weights.specs.Value.{keyOf, patternOf, larger, topKey, powerAt, shareOf, shareAt, inverseOf, factorOf, placesOf, weightBits};
 ghost use Rattle.weights.specs.Weight.{sourceOf, Sized, IsJudged, Scaling, AtMostOne};
 
@@ -98,29 +99,30 @@ fn judge(x: &[f32], p: &[u32]) -> Judged
     Judged { ok: true, top }
 }
 
-// 2 to the power x in steps of 2^(e - 178), rounded up: what is left of its digits, and one step more.
-fn share(x: f32, e: u32) -> u64
-    requires { ⌜ Element x × (fixedExponent x ≤ e) ⌝ }
-    ensures { λ s. ⌜ s ≡ shareOf e x ⌝ }
+// The power of x in steps of 2^(e - 178), rounded up: what is left of its digits, and one step more.
+fn share(natural: bool, x: f32, e: u32) -> u64
+    requires { ⌜ Element x × (fixedExponent natural x ≤ e) ⌝ }
+    ensures { λ s. ⌜ s ≡ shareOf natural e x ⌝ }
 {
-    let t = powers::fixed_exp2(x);
-    if e - t.e < 64 {
-        ((t.r * 1048576) >> (e - t.e)) + 1
+    let c = powers::fixed_point::argument(natural, x);
+    let k = e - powers::fixed_point::exponent(c);
+    if k < 64 {
+        ((powers::fixed_point::digits(c) * 1048576) >> k) + 1
     } else {
         1
     }
 }
 
 // The sum of all of them.
-fn total(x: &[f32], p: &[u32], e: u32) -> u64
-    requires { ⌜ Sized (now x) (now p) × (length (now p) ≤ 1024) × Elements (sourceOf (now x) (now p)) × ((i : ℕ) → i < length (now p) → fixedExponent (at (sourceOf (now x) (now p)) i) ≤ e) ⌝ }
-    ensures { λ s. ⌜ s ≡ sum (shareAt e (sourceOf (now (x .entry)) (now (p .entry)))) (length (now (p .entry))) ⌝ }
+fn total(natural: bool, x: &[f32], p: &[u32], e: u32) -> u64
+    requires { ⌜ Sized (now x) (now p) × (length (now p) ≤ 1024) × Elements (sourceOf (now x) (now p)) × ((i : ℕ) → i < length (now p) → fixedExponent natural (at (sourceOf (now x) (now p)) i) ≤ e) ⌝ }
+    ensures { λ s. ⌜ s ≡ sum (shareAt natural e (sourceOf (now (x .entry)) (now (p .entry)))) (length (now (p .entry))) ⌝ }
 {
     let n = p.len() as u32;
     let mut s = 0;
     let mut j = 0;
     while j < n {
-        s += share(element(x, p, j as usize), e);
+        s += share(natural, element(x, p, j as usize), e);
         j += 1;
     }
     s
@@ -134,7 +136,7 @@ struct Factor {
 
 // The reciprocal of a sum in steps of 2^(e - 178), rounded down: 31 digits of it, by one division.
 fn reciprocal(s: u64, e: u32) -> Factor
-    requires { ⌜ (2 ^ 52 ≤ s) × (62 ≤ e) ⌝ }
+    requires { ⌜ (2 ^ 52 ≤ s) × (33 ≤ e) ⌝ }
     ensures { λ t. ⌜ (t .r ≡ inverseOf s (leadingZeros 64 s)) × (t .c ≡ e - leadingZeros 64 s) ⌝ }
 {
     let z = u64::leading_zeros(s);
@@ -145,47 +147,51 @@ fn reciprocal(s: u64, e: u32) -> Factor
 }
 
 // One over the sum of the powers of all elements, the largest of which has the key k.
-fn scale(x: &[f32], p: &[u32], k: u32) -> Factor
+fn scale(natural: bool, x: &[f32], p: &[u32], k: u32) -> Factor
     requires { ⌜ Sized (now x) (now p) × (0 < length (now p)) × (length (now p) ≤ 1024) × Elements (sourceOf (now x) (now p)) × (k ≡ topKey (sourceOf (now x) (now p))) ⌝ }
-    ensures { λ t. ⌜ (t .r ≡ factorOf (sourceOf (now (x .entry)) (now (p .entry)))) × (t .c ≡ placesOf (sourceOf (now (x .entry)) (now (p .entry)))) ⌝ }
+    ensures { λ t. ⌜ (t .r ≡ factorOf natural (sourceOf (now (x .entry)) (now (p .entry)))) × (t .c ≡ placesOf natural (sourceOf (now (x .entry)) (now (p .entry)))) ⌝ }
 {
-    let t = powers::fixed_exp2(f32::from_bits(unlocked(k)));
-    reciprocal(total(x, p, t.e), t.e)
+    let top = f32::from_bits(unlocked(k));
+    let e = powers::fixed_point::exponent(powers::fixed_point::argument(natural, top));
+    reciprocal(total(natural, x, p, e), e)
 }
 
-// The pattern of the power of x times the scale, n * 2^(e - 40 - c) least floats, rounded once; below 2^-125 there are 24 digits at most, and the rest is cut off.
-fn weight(x: f32, r: u32, c: u32) -> u32
-    requires { ⌜ Element x × Scaling r c × AtMostOne (fixedPower x) r c ⌝ }
-    ensures { λ b. ⌜ b ≡ weightBits r c x ⌝ }
+// The pattern of the power of x times the scale, n * 2^(e - 40 - c) least floats, rounded once; below 2^-125 there are 24 digits at most,
+// and the rest is cut off; below 2^-149 nothing is left.
+fn weight(natural: bool, x: f32, r: u32, c: u32) -> u32
+    requires { ⌜ Element x × Scaling r c × AtMostOne (fixedPower natural x) r c ⌝ }
+    ensures { λ b. ⌜ b ≡ weightBits natural r c x ⌝ }
 {
-    let t = powers::fixed_exp2(x);
-    let n = t.r * (r as u64);
-    let e = t.e + 115;
+    let a = powers::fixed_point::argument(natural, x);
+    let n = powers::fixed_point::digits(a) * (r as u64);
+    let e = powers::fixed_point::exponent(a) + 115;
     if c < e {
         fixed::nearest_bits(n, e - c)
-    } else {
+    } else if c + 40 - e < 64 {
         (n >> (c + 40 - e)) as u32
+    } else {
+        0
     }
 }
 
 // All of them.
-fn fill(x: &[f32], p: &mut [u32], r: u32, c: u32)
-    requires { ⌜ Sized (now x) (now p) × (length (now p) ≤ 1024) × Elements (sourceOf (now x) (now p)) × Scaling r c × AtMostOne (sum (powerAt (sourceOf (now x) (now p))) (length (sourceOf (now x) (now p)))) r c ⌝ }
-    ensures { λ _. ⌜ now (p .exit) ≡ map (weightBits r c) (sourceOf (now (x .entry)) (now (p .entry))) ⌝ }
+fn fill(natural: bool, x: &[f32], p: &mut [u32], r: u32, c: u32)
+    requires { ⌜ Sized (now x) (now p) × (length (now p) ≤ 1024) × Elements (sourceOf (now x) (now p)) × Scaling r c × AtMostOne (sum (powerAt natural (sourceOf (now x) (now p))) (length (sourceOf (now x) (now p)))) r c ⌝ }
+    ensures { λ _. ⌜ now (p .exit) ≡ map (weightBits natural r c) (sourceOf (now (x .entry)) (now (p .entry))) ⌝ }
 {
     let n = p.len() as u32;
     let mut k = 0;
     while k < n {
         let i = k as usize;
-        p[i] = weight(element(x, p, i), r, c);
+        p[i] = weight(natural, element(x, p, i), r, c);
         k += 1;
     }
 }
 
 // The weights of the list, where its length and its elements are accepted; code 2 or 1 and nothing written where they are not.
-fn weigh(x: &[f32], p: &mut [u32]) -> u32
+fn weigh(natural: bool, x: &[f32], p: &mut [u32]) -> u32
     requires { ⌜ Sized (now x) (now p) ⌝ }
-    ensures { λ code. ⌜ Ends listBits (Softmax2 (sourceOf (now (x .entry)) (now (p .entry))) (length (now (p .entry)))) code (now (p .entry)) (now (p .exit)) ⌝ }
+    ensures { λ code. ⌜ Ends listBits (Softmax natural (sourceOf (now (x .entry)) (now (p .entry))) (length (now (p .entry)))) code (now (p .entry)) (now (p .exit)) ⌝ }
 {
     if p.len() == 0 {
         return 2;
@@ -197,25 +203,39 @@ fn weigh(x: &[f32], p: &mut [u32]) -> u32
     if !j.ok {
         return 1;
     }
-    let s = scale(x, p, j.top);
-    fill(x, p, s.r, s.c);
+    let s = scale(natural, x, p, j.top);
+    fill(natural, x, p, s.r, s.c);
     0
 }
 
-// 2 to the power of each element over the sum of all these powers; code 2 or 1 and nothing written where lengths or an element are refused.
-pub fn softmax2(x: &[f32], p: &mut [u32]) -> u32
-    ensures { λ code. ⌜ Ends listBits (Softmax2 (now (x .entry)) (length (now (p .entry)))) code (now (p .entry)) (now (p .exit)) ⌝ }
+// The same of x, into another list; code 2 too where that has another length.
+fn weigh_into(natural: bool, x: &[f32], p: &mut [u32]) -> u32
+    ensures { λ code. ⌜ Ends listBits (Softmax natural (now (x .entry)) (length (now (p .entry)))) code (now (p .entry)) (now (p .exit)) ⌝ }
 {
     if x.len() != p.len() {
         return 2;
     }
-    weigh(x, p)
+    weigh(natural, x, p)
+}
+
+// 2 to the power of each element over the sum of all these powers; code 2 or 1 and nothing written where lengths or an element are refused.
+pub fn softmax2(x: &[f32], p: &mut [u32]) -> u32
+    ensures { λ code. ⌜ Ends listBits (Softmax two (now (x .entry)) (length (now (p .entry)))) code (now (p .entry)) (now (p .exit)) ⌝ }
+{
+    weigh_into(false, x, p)
 }
 
 // The same of the floats whose patterns the list holds, in their place.
 pub fn softmax2_in_place(p: &mut [u32]) -> u32
-    ensures { λ code. ⌜ Ends listBits (Softmax2 (floatsOf (now (p .entry))) (length (now (p .entry)))) code (now (p .entry)) (now (p .exit)) ⌝ }
+    ensures { λ code. ⌜ Ends listBits (Softmax two (floatsOf (now (p .entry))) (length (now (p .entry)))) code (now (p .entry)) (now (p .exit)) ⌝ }
 {
     let none = [0.0f32; 1];
-    weigh(&none[..0], p)
+    weigh(false, &none[..0], p)
+}
+
+// e to the power of each element over the sum of all these powers, likewise.
+pub fn softmax(x: &[f32], p: &mut [u32]) -> u32
+    ensures { λ code. ⌜ Ends listBits (Softmax natural (now (x .entry)) (length (now (p .entry)))) code (now (p .entry)) (now (p .exit)) ⌝ }
+{
+    weigh_into(true, x, p)
 }

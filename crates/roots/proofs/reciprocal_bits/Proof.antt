@@ -17,14 +17,8 @@ sub-k c = search needs
 add-t : tie.Need-add-t
 add-t c = search needs
 
-cast-t : tie.Need-cast-t
-cast-t c = search needs
-
 shl-t : tie.Need-shl-t
 shl-t c = search needs
-
-cast-settle-reciprocal : tie.Need-cast-settle-reciprocal
-cast-settle-reciprocal c = search needs
 
 reciprocal-requires : tie.Need-reciprocal-requires
 reciprocal-requires c κs = search needs
@@ -48,9 +42,6 @@ in-pattern c =
 mul-result : tie.Need-mul-result
 mul-result c = search needs
 
-cast-result : tie.Need-cast-result
-cast-result c = omega (arith, in-pattern c)
-
 add-result : tie.Need-add-result
 add-result c = omega (arith, in-pattern c)
 
@@ -66,12 +57,9 @@ reciprocal-bits-spec =
     apart-requires
     sub-k
     add-t
-    cast-t
     shl-t
-    cast-settle-reciprocal
     reciprocal-requires
     settle-reciprocal-requires
     mul-result
-    cast-result
     add-result
     returns)

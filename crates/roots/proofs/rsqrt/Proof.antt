@@ -5,32 +5,33 @@ use native.Mathlib.Nat.{not-le-of-lt}
 use native.Mathlib.Omega.{arith}
 use borrow.Author.Tests.{ltb-true, ltb-false}
 use lib.Dec.{T}
+use Rattle.fixed.proofs.Take.{equal-to-itself, no-number}
 use Rattle.roots.proofs.Range.{positive, positive-below, positive-above}
 use Rattle.roots.proofs.ReciprocalRoot.{success, refusal}
 use Rattle.roots.proofs.rsqrt.Statement.{statement}
 use Rattle.roots.proofs.rsqrt.Tie as tie
 
-bits-of-requires : tie.Need-bits-of-requires
-bits-of-requires c κs = tt
+returns : tie.Need-returns
+returns c = refusal (c .before .args .x) (λ p. no-number (c .before .args .x) (c .if1 .taken) (p .number))
+
+float-to-bits-b : tie.Need-float-to-bits-b
+float-to-bits-b c = equal-to-itself (c .before .args .x) (c .if1 .left)
 
 reciprocal-bits-requires : tie.Need-reciprocal-bits-requires
 reciprocal-bits-requires c κs =
-    let s = c .before .before in
-    let e = s .bits-of .ensures in
-    positive (s .before .args .x) (subst T (sym (s .before .good .0 .1)) tt) (omega (arith, ltb-true)) (omega (arith, ltb-true))
-
-returns : tie.Need-returns
-returns c = success (c .before .before .before .before .args .x) (reciprocal-bits-requires (c .before) _) (c .reciprocal-bits .ensures)
+    let s = c .before .before .before in
+    positive (s .args .x) (subst T (sym (s .good .0 .1)) tt) (omega (arith, ltb-true)) (omega (arith, ltb-true))
 
 returns-2 : tie.Need-returns-2
-returns-2 c =
-    let s = c .before in
-    let x = s .before .args .x in
-    let b = s .bits-of .ensures in
-    refusal x (λ p. elim (c .if1 .came) [
+returns-2 c = success (c .before .before .before .before .args .x) (reciprocal-bits-requires (c .before) _) (c .reciprocal-bits .ensures)
+
+returns-3 : tie.Need-returns-3
+returns-3 c =
+    let x = c .before .before .args .x in
+    refusal x (λ p. elim (c .if2 .came) [
       | inl (t, e) ↦ not-le-of-lt (positive-below x p) (omega (arith, ltb-false))
       | inr e ↦ not-le-of-lt (positive-above x p) (omega arith)
     ])
 
 pub rsqrt-spec : {M : Type 1} → statement M
-rsqrt-spec = tie.close (tie.spec bits-of-requires reciprocal-bits-requires returns returns-2)
+rsqrt-spec = tie.close (tie.spec returns float-to-bits-b reciprocal-bits-requires returns-2 returns-3)

@@ -12,7 +12,7 @@ abbrev μ-loop : tie.MeasureT-loop
 μ-loop m t guess h₀ h = 67108864 - h
 
 abbrev Inv-loop2 : tie.InvT-loop2
-Inv-loop2 m t guess h₀ h = (h < 67108864) × (t ≤ (2 * h + 1) * (2 * h + 1) * m / 4294967296)
+Inv-loop2 m t guess h₀ h = (h < 67108864) × (t ≤ (2 * h + 1) * (2 * h + 1) * m / 18446744073709551616)
 
 abbrev μ-loop2 : tie.MeasureT-loop2
 μ-loop2 m t guess h₀ h = h

@@ -1,4 +1,5 @@
 -- `roots::settle_root` meets its contract: what the two loops' tests say as they fail is the statement. Assumes nothing.
+use borrow.Author.Needs.{needs}
 use Prim.Native.Nat.{_≤_, _<_, _+_, _*_, _-_}
 use native.Mathlib.Omega.{arith}
 use Rattle.roots.proofs.Steps.{square, up-small, down-room, down-over}
@@ -20,6 +21,15 @@ abbrev μ-loop2 : tie.MeasureT-loop2
 loop-holds : tie.Need-loop-holds Inv-loop μ-loop Inv-loop2 μ-loop2
 loop-holds c = c .pre .2
 
+cast-loop : tie.Need-cast-loop Inv-loop μ-loop Inv-loop2 μ-loop2
+cast-loop c = search needs
+
+cast-loop-2 : tie.Need-cast-loop-2 Inv-loop μ-loop Inv-loop2 μ-loop2
+cast-loop-2 c = search needs
+
+cast-loop-3 : tie.Need-cast-loop-3 Inv-loop μ-loop Inv-loop2 μ-loop2
+cast-loop-3 c = search needs
+
 mul-loop : tie.Need-mul-loop Inv-loop μ-loop Inv-loop2 μ-loop2
 mul-loop c = omega (arith, square (c .loop .s) (c .loop .inv))
 
@@ -37,6 +47,15 @@ loop-again c = up-small (c .before .before .args .n) (c .before .loop .s) (c .be
 
 loop2-holds : tie.Need-loop2-holds Inv-loop μ-loop Inv-loop2 μ-loop2
 loop2-holds c = (c .before .loop .inv, c .loop-test .left)
+
+cast-loop2 : tie.Need-cast-loop2 Inv-loop μ-loop Inv-loop2 μ-loop2
+cast-loop2 c = search needs
+
+cast-loop2-2 : tie.Need-cast-loop2-2 Inv-loop μ-loop Inv-loop2 μ-loop2
+cast-loop2-2 c = search needs
+
+cast-loop2-3 : tie.Need-cast-loop2-3 Inv-loop μ-loop Inv-loop2 μ-loop2
+cast-loop2-3 c = search needs
 
 add-loop2 : tie.Need-add-loop2 Inv-loop μ-loop Inv-loop2 μ-loop2
 add-loop2 c = omega arith
@@ -59,4 +78,4 @@ returns c = record { half-above = c .before .loop2 .inv .1; half-below = c .loop
 pub settle-root-spec : {M : Type 1} → statement M
 settle-root-spec =
     tie.close
-    (tie.spec Inv-loop μ-loop Inv-loop2 μ-loop2 loop-holds mul-loop add-loop add-s loop-less loop-again loop2-holds add-loop2 mul-loop2 sub-s loop2-less loop2-again returns)
+    (tie.spec Inv-loop μ-loop Inv-loop2 μ-loop2 loop-holds cast-loop cast-loop-2 mul-loop cast-loop-3 add-loop add-s loop-less loop-again loop2-holds cast-loop2 add-loop2 cast-loop2-2 cast-loop2-3 mul-loop2 sub-s loop2-less loop2-again returns)

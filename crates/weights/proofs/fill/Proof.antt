@@ -18,10 +18,10 @@ use Rattle.weights.proofs.fill.Statement.{statement}
 use Rattle.weights.proofs.fill.Tie as tie
 
 abbrev Inv-loop : tie.InvT-loop
-Inv-loop x p₀ r c n k₀ p k = (k ≤ n) × (length p ≡ length p₀) × ((i : ℕ) → i < k → getD p i 0 ≡ weightBits r c (at (sourceOf x p₀) i)) × ((i : ℕ) → k ≤ i → getD p i 0 ≡ getD p₀ i 0)
+Inv-loop b x p₀ r c n k₀ p k = (k ≤ n) × (length p ≡ length p₀) × ((i : ℕ) → i < k → getD p i 0 ≡ weightBits b r c (at (sourceOf x p₀) i)) × ((i : ℕ) → k ≤ i → getD p i 0 ≡ getD p₀ i 0)
 
 abbrev μ-loop : tie.MeasureT-loop
-μ-loop x p₀ r c n k₀ p k = n - k
+μ-loop b x p₀ r c n k₀ p k = n - k
 
 cast-n : tie.Need-cast-n Inv-loop μ-loop
 cast-n c = omega arith
@@ -61,7 +61,7 @@ weight-requires : tie.Need-weight-requires Inv-loop μ-loop
 weight-requires c κs =
     let l = c .before .before in
     let start = l .before .before .before .before in
-    rw (c .element .ensures ∙ unwritten l) (accepted l, start .pre .3, le-trans (mul-le-mul-right (start .args .r) (member (powerAt (xs start)) (length (xs start)) (l .before .loop .k) (within l))) (start .pre .4))
+    rw (c .element .ensures ∙ unwritten l) (accepted l, start .pre .3, le-trans (mul-le-mul-right (start .args .r) (member (powerAt (start .args .natural) (xs start)) (length (xs start)) (l .before .loop .k) (within l))) (start .pre .4))
 
 mul-p : tie.Need-mul-p Inv-loop μ-loop
 mul-p c = omega (arith, c .before .before .before .loop-test .taken, c .before .before .before .before .before .before .before .pre .1)
@@ -85,9 +85,9 @@ loop-again c =
     let b = c .weight .result in (
       omega (arith, l .loop-test .taken),
       length-set p i b ∙ inv .1,
-      below-more (λ k. getD (set p i b) k 0 ≡ weightBits (start .args .r) (start .args .c) (at (xs start) k)) i
+      below-more (λ k. getD (set p i b) k 0 ≡ weightBits (start .args .natural) (start .args .r) (start .args .c) (at (xs start) k)) i
           (λ k h. getD-set-other p i k b 0 (ne-of-lt h) ∙ inv .2 k h)
-          (getD-set-same p i b 0 (in-list l) ∙ c .weight .ensures ∙ ap (weightBits (start .args .r) (start .args .c)) (c .before .element .ensures ∙ unwritten l)),
+          (getD-set-same p i b 0 (in-list l) ∙ c .weight .ensures ∙ ap (weightBits (start .args .natural) (start .args .r) (start .args .c)) (c .before .element .ensures ∙ unwritten l)),
       λ k h. getD-set-other p i k b 0 (ne-of-gt (omega arith)) ∙ inv .3 k (omega arith),
     )
 
@@ -98,7 +98,7 @@ returns : tie.Need-returns Inv-loop μ-loop
 returns c =
     let start = c .before .before .before .before in
     let inv = c .before .loop .inv in
-    is-map (weightBits (start .args .r) (start .args .c)) nan 0 (xs start) (c .before .loop .p) (inv .1 ∙ sym (start .pre .0)) (λ i h. inv .2 i (omega (arith, start .pre .0, c .loop-test .left)))
+    is-map (weightBits (start .args .natural) (start .args .r) (start .args .c)) nan 0 (xs start) (c .before .loop .p) (inv .1 ∙ sym (start .pre .0)) (λ i h. inv .2 i (omega (arith, start .pre .0, c .loop-test .left)))
 
 pub fill-spec : {M : Type 1} → statement M
 fill-spec = tie.close (tie.spec Inv-loop μ-loop cast-n loop-holds cast-i element-requires weight-requires mul-p slice-write-p add-k loop-less loop-again same-length returns)

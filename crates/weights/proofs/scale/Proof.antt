@@ -8,6 +8,7 @@ use lib.Count.{leadingZeros}
 use lib.ListN.{length}
 use lib.Ieee.{Float, binary32, ofBits}
 use Rattle.powers.specs.Fixed.{fixedExponent}
+use Rattle.powers.proofs.Fixed.{exponent-of}
 use Rattle.weights.specs.Lists.{sum}
 use Rattle.weights.specs.Softmax.{Element}
 use Rattle.weights.specs.Value.{patternOf, topOf, topExponent, shareAt, totalOf, inverseOf, factorOf, placesOf}
@@ -29,37 +30,42 @@ unfolding topOf
 top c = ap (ofBits binary32) (c .unlocked .ensures ∙ ap patternOf (c .before .before .before .pre .4))
 
 largest : (c : tie.After-unlocked) → Element (ofBits binary32 (c .unlocked .result))
-largest c = let start = c .before .before .before in subst Element (sym (top c)) (top-element (xs start) (start .pre .3) (some start))
+largest c = let start = c .before .before .before in subst Element (sym (top c)) (top-element (start .args .natural) (xs start) (start .pre .3) (some start))
 
 -- its exponent
-exponent : (c : tie.After-fixed-exp2) → c .fixed-exp2 .result .e ≡ topExponent (xs (c .before .before .before .before))
-exponent c = c .fixed-exp2 .ensures .whole-part ∙ ap fixedExponent (top (c .before))
+exponent : (c : tie.After-exponent) → c .exponent .result ≡ topExponent (c .before .before .before .before .before .args .natural) (xs (c .before .before .before .before .before))
+exponent c =
+    let base = c .before .before .before .before .before .args .natural in
+    c .exponent .ensures ∙ exponent-of base (ofBits binary32 (c .before .before .unlocked .result)) (c .before .argument .ensures) ∙ ap (fixedExponent base) (top (c .before .before))
 
 -- and the sum
-sum-is : (c : tie.After-total) → c .total .result ≡ totalOf (xs (c .before .before .before .before .before))
+sum-is : (c : tie.After-total) → c .total .result ≡ totalOf (c .before .before .before .before .before .before .args .natural) (xs (c .before .before .before .before .before .before))
 unfolding totalOf
 sum-is c =
-    let start = c .before .before .before .before .before in
-    c .total .ensures ∙ ap₂ (λ (e n : ℕ). sum (shareAt e (xs start)) n) (exponent (c .before)) (sym (start .pre .0))
+    let start = c .before .before .before .before .before .before in
+    c .total .ensures ∙ ap₂ (λ (e n : ℕ). sum (shareAt (start .args .natural) e (xs start)) n) (exponent (c .before)) (sym (start .pre .0))
 
 unlocked-requires : tie.Need-unlocked-requires
 unlocked-requires c κs = search needs
 
-float-from-bits-fixed-exp2 : tie.Need-float-from-bits-fixed-exp2
-float-from-bits-fixed-exp2 c = not-nan (c .unlocked .result) (largest c .number)
+float-from-bits-top : tie.Need-float-from-bits-top
+float-from-bits-top c = not-nan (c .unlocked .result) (largest c .number)
 
-fixed-exp2-requires : tie.Need-fixed-exp2-requires
-fixed-exp2-requires c κs = power-accepts (ofBits binary32 (c .unlocked .result)) (largest c)
+argument-requires : tie.Need-argument-requires
+argument-requires c κs = power-accepts (ofBits binary32 (c .unlocked .result)) (largest c)
+
+exponent-requires : tie.Need-exponent-requires
+exponent-requires c κs = search needs
 
 total-requires : tie.Need-total-requires
 total-requires c κs =
-    let start = c .before .before .before .before in
-    (start .pre .0, start .pre .2, start .pre .3, λ i h. le-trans (top-most (xs start) (start .pre .3) (some start) i (lt-of-lt-of-le h (le-of-eq (sym (start .pre .0))))) (le-of-eq (sym (exponent c))))
+    let start = c .before .before .before .before .before in
+    (start .pre .0, start .pre .2, start .pre .3, λ i h. le-trans (top-most (start .args .natural) (xs start) (start .pre .3) (some start) i (lt-of-lt-of-le h (le-of-eq (sym (start .pre .0))))) (le-of-eq (sym (exponent c))))
 
 reciprocal-requires : tie.Need-reciprocal-requires
 reciprocal-requires c κs =
-    let start = c .before .before .before .before .before in
-    (le-trans (many (xs start) (start .pre .3) (some start)) (le-of-eq (sym (sum-is c))), le-trans (top-low (xs start) (start .pre .3) (some start)) (le-of-eq (sym (exponent (c .before)))))
+    let start = c .before .before .before .before .before .before in
+    (le-trans (many (start .args .natural) (xs start) (start .pre .3) (some start)) (le-of-eq (sym (sum-is c))), le-trans (top-low (start .args .natural) (xs start) (start .pre .3) (some start)) (le-of-eq (sym (exponent (c .before)))))
 
 returns : tie.Need-returns
 unfolding factorOf placesOf
@@ -70,4 +76,4 @@ returns c =
     )
 
 pub scale-spec : {M : Type 1} → statement M
-scale-spec = tie.close (tie.spec unlocked-requires float-from-bits-fixed-exp2 fixed-exp2-requires total-requires reciprocal-requires returns)
+scale-spec = tie.close (tie.spec unlocked-requires float-from-bits-top argument-requires exponent-requires total-requires reciprocal-requires returns)

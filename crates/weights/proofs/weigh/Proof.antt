@@ -22,10 +22,10 @@ xs c = sourceOf (c .args .x .now) (c .args .p .now)
 
 -- ---- refused by its length
 returns : tie.Need-returns
-returns c = let start = c .before .before .before in refused-lengths (xs start) (length (start .args .p .now)) (λ l. omega (arith, l .same, l .least, c .if1 .taken))
+returns c = let start = c .before .before .before in refused-lengths (start .args .natural) (xs start) (length (start .args .p .now)) (λ l. omega (arith, l .same, l .least, c .if1 .taken))
 
 returns-2 : tie.Need-returns-2
-returns-2 c = let start = c .before .before .before .before in refused-lengths (xs start) (length (start .args .p .now)) (λ l. omega (arith, l .same, l .most, c .if2 .taken))
+returns-2 c = let start = c .before .before .before .before in refused-lengths (start .args .natural) (xs start) (length (start .args .p .now)) (λ l. omega (arith, l .same, l .most, c .if2 .taken))
 
 -- ---- the list behind the tests of its length
 lengths : (c : tie.Else2) → Lengths (xs (c .before .before .before .before)) (length (c .before .before .before .before .args .p .now))
@@ -44,7 +44,7 @@ returns-3 : tie.Need-returns-3
 returns-3 c =
     let judged = c .before .before in
     let start = judged .before .before .before .before .before .before in
-    refused-element (xs start) (length (start .args .p .now)) (lengths (judged .before .before)) (judged .judge .ensures .tells .if-false (not-true (judged .judge .result .ok) (c .if3 .taken)))
+    refused-element (start .args .natural) (xs start) (length (start .args .p .now)) (lengths (judged .before .before)) (judged .judge .ensures .tells .if-false (not-true (judged .judge .result .ok) (c .if3 .taken)))
 
 same-length : tie.Need-same-length
 same-length c = search needs
@@ -70,7 +70,7 @@ fill-requires c κs =
     let start = e .before .before .before .before in
     let a = accepts t in
     let s = c .before .scale .ensures in
-    rw (s .0, s .1) (start .pre, e .if2 .left, a .elements, scaling (xs start) (a .elements) (a .lengths .least) (a .lengths .most), inverse (xs start) (a .elements) (a .lengths .least) (a .lengths .most) .most)
+    rw (s .0, s .1) (start .pre, e .if2 .left, a .elements, scaling (start .args .natural) (xs start) (a .elements) (a .lengths .least) (a .lengths .most), inverse (start .args .natural) (xs start) (a .elements) (a .lengths .least) (a .lengths .most) .most)
 
 same-length-2 : tie.Need-same-length-2
 same-length-2 c = search needs
@@ -81,7 +81,7 @@ returns-4 c =
     let s = f .before .before in
     let t = s .before .before in
     let start = t .before .before .before .before .before .before .before .before in
-    weighed (xs start) (length (start .args .p .now)) (accepts t) (f .fill .ensures ∙ ap₂ (λ (r k : ℕ). map (weightBits r k) (xs start)) (s .scale .ensures .0) (s .scale .ensures .1))
+    weighed (start .args .natural) (xs start) (length (start .args .p .now)) (accepts t) (f .fill .ensures ∙ ap₂ (λ (r k : ℕ). map (weightBits (start .args .natural) r k) (xs start)) (s .scale .ensures .0) (s .scale .ensures .1))
 
 pub weigh-spec : {M : Type 1} → statement M
 weigh-spec = tie.close (tie.spec returns returns-2 judge-requires same-length returns-3 scale-requires fill-requires same-length-2 returns-4)

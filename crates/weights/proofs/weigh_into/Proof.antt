@@ -1,14 +1,14 @@
--- `weights::softmax2` meets its promise: lists of one length are weighed. Assumes nothing.
+-- `weights::weigh_into` meets its promise: lists of one length are weighed. Assumes nothing.
 use borrow.Author.Needs.{needs}
 use mathlib.Core.Path.{ap, _∙_}
 use lib.ListN.{length}
 use Rattle.weights.proofs.Source.{alike}
 use Rattle.weights.proofs.Promise.{refused-lengths}
-use Rattle.weights.proofs.softmax2.Statement.{statement}
-use Rattle.weights.proofs.softmax2.Tie as tie
+use Rattle.weights.proofs.weigh_into.Statement.{statement}
+use Rattle.weights.proofs.weigh_into.Tie as tie
 
 returns : tie.Need-returns
-returns c = let start = c .before .before .before in refused-lengths (start .args .x .now) (length (start .args .p .now)) (λ l. c .if1 .taken (l .same))
+returns c = let start = c .before .before .before in refused-lengths (start .args .natural) (start .args .x .now) (length (start .args .p .now)) (λ l. c .if1 .taken (l .same))
 
 weigh-requires : tie.Need-weigh-requires
 weigh-requires c κs =
@@ -24,5 +24,5 @@ returns-2 c =
     let start = w .before .before .before .before .before in
     rw (alike (start .args .x .now) (start .args .p .now) (w .before .before .if1 .left)) at (w .weigh .ensures)
 
-pub softmax2-spec : {M : Type 1} → statement M
-softmax2-spec = tie.close (tie.spec returns weigh-requires same-length returns-2)
+pub weigh-into-spec : {M : Type 1} → statement M
+weigh-into-spec = tie.close (tie.spec returns weigh-requires same-length returns-2)

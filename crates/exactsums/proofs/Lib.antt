@@ -1,0 +1,9 @@
+pub mod Bins
+pub mod Patterns
+pub mod Rounding
+pub mod Heads
+pub mod Gathering
+pub mod Ending
+pub mod Promise
+pub mod Order
+pub mod Asked
