@@ -38,14 +38,13 @@ fn root_bits(x: f32) -> u32
     (e / 2 + 51) * 8388608 + s
 }
 
-// The nearest float to the root of x, of a zero the same zero; code 1 and nothing written where x is a NaN, below zero or an infinity.
+// The nearest float to the root of x, of a zero the same zero; code 1 and nothing written where x is a NaN, below zero or an infinity. The pattern is
+// that of `bits_of`: behind a test for NaN of its own the compiler makes of the test for zeros one of floats, which takes a subnormal for a zero where
+// the float unit reads it so.
 pub fn sqrt(x: f32, out: &mut u32) -> u32
     ensures { λ code. ⌜ Ends floatBits (Sqrt x) code (now (out .entry)) (now (out .exit)) ⌝ }
 {
-    if x != x {
-        return 1;
-    }
-    let b = f32::to_bits(x);
+    let b = fixed::bits_of(x);
     if b % 0x8000_0000 == 0 {
         *out = b;
         return 0;
