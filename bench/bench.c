@@ -32,6 +32,8 @@ enum evenly { OVER_PATTERNS, OVER_VALUES };
 #define EVERY_EXPONENT {"x from -87 to 88", OVER_VALUES, -87, 88}
 #define AROUND_ZERO {"x from -1 to 1", OVER_VALUES, -1, 1}
 #define EVERY_ANGLE {"-8192 <= x <= 8192", OVER_VALUES, -8192, 8192}
+#define SINCE_POWER_ON {"8192 <= x <= 1e8", OVER_VALUES, 8192, 1e8f}
+#define EVERY_LARGE {"x >= 8192", OVER_PATTERNS, 8192, FLT_MAX}
 
 /* For rivals without a function of pi x; the product is rounded, so theirs are not the sines of pi x. */
 #define PI 3.14159274f
@@ -46,6 +48,8 @@ enum evenly { OVER_PATTERNS, OVER_VALUES };
     LINE(logarithm, ear_log2(x, out), newlib_log2f(x), log2f(x), EVERY_NORMAL, ONE_TO_FOUR) \
     LINE(sine, ear_sin(x, out), newlib_sinf(x), sinf(x), EVERY_ANGLE, AROUND_ZERO) \
     LINE(cosine, ear_cos(x, out), newlib_cosf(x), cosf(x), EVERY_ANGLE, AROUND_ZERO) \
+    LINE(large_sine, ear_sin(x, out), newlib_sinf(x), sinf(x), SINCE_POWER_ON, EVERY_LARGE) \
+    LINE(large_cosine, ear_cos(x, out), newlib_cosf(x), cosf(x), SINCE_POWER_ON, EVERY_LARGE) \
     LINE(sine_of_pi_x, ear_sinpi(x, out), newlib_sinf(PI * x), sinf(PI * x), EVERY_ANGLE, AROUND_ZERO) \
     LINE(cosine_of_pi_x, ear_cospi(x, out), newlib_cosf(PI * x), cosf(PI * x), EVERY_ANGLE, AROUND_ZERO) \
     LINE(loudness_map, loudness(x, out), straight(newlib_log2f, x), straight(log2f, x), BETWEEN, UP_TO_ONE)

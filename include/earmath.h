@@ -125,12 +125,13 @@ uint32_t ear_cospi(float x, float *out);
 /*
  * sin(x), x in radians.
  *
- * Accepts: every x with -8192 <= x <= 8192.
+ * Accepts: every finite x. (Of a large one neighbouring floats lie many turns
+ *          apart, and the promise is about the very float that is given.)
  * Result:  within 17 / 2^29 (below 2^-24.91) of the real number sin(x). Always
  *          from -1 to 1. The bound is absolute, and says little of a result
  *          near 0.
- * Refuses: NaN, both infinities, every x < -8192 and every x > 8192 with
- *          EAR_OUT_OF_RANGE; *out stays as it was.
+ * Refuses: NaN and both infinities with EAR_OUT_OF_RANGE; *out stays as it
+ *          was.
  */
 uint32_t ear_sin(float x, float *out);
 

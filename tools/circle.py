@@ -6,12 +6,13 @@ sin(pi t / 2) for 0 <= t <= 1 is nearest to c1 t - c3 t^3 + .. - c11 t^11 in the
 The coefficients become whole numbers one after the other, c1 of 2^-31 and the others of 2^-32, and the rest is fitted anew
 each time, so that a later coefficient makes up for the rounding of an earlier one.
 
-The digits are those of 1 / (2 pi) after 64 zeros, in words of 32: as many as angles up to 2^LARGEST need. Their last window
-ends 54 digits after the point where LARGEST is 13; for every finite float LARGEST is 127, and that is 168 digits."""
+The digits are those of 1 / (2 pi) after 64 zeros, in words of 32: as many as angles below 2^(LARGEST + 1) need, which is every
+finite float. Their last window ends 168 digits after the point. Before them stand the first 63 in one number: angles below
+2^23 need no more."""
 from mpmath import mp, mpf, lu_solve, matrix, nint, sin, pi, floor
 
 mp.dps = 90
-TERMS, GRID, LARGEST = 6, 1500, 13
+TERMS, GRID, LARGEST = 6, 1500, 127
 UNITS = [2 ** 31] + [2 ** 32] * (TERMS - 1)
 points = [mpf(i) / GRID for i in range(GRID + 1)]
 wave = [sin(pi / 2 * t) for t in points]
@@ -65,4 +66,5 @@ print(*("%08x" % int(abs(c) * u) for c, u in zip(cs, UNITS)), " greatest error: 
 # a float below 2^(LARGEST + 1) has 23 digits more after its first; a phase has 64 digits after the point
 words = (LARGEST + 64 - 23) // 32 + 1
 digits = int(floor(mpf(2) ** (32 * words) / (2 * pi)))
+print("%016x" % (digits >> 32 * words - 63))
 print(*("%08x" % (digits >> 32 * i & 0xFFFFFFFF) for i in reversed(range(words))))

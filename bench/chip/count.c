@@ -32,6 +32,7 @@ enum evenly { OVER_PATTERNS, OVER_VALUES, IN_LISTS };
 #define EVERY_EXPONENT {"-87 <= x <= 88", OVER_VALUES, -87, 88, 0}
 #define EVERY_ANGLE {"-8192 <= x <= 8192", OVER_VALUES, -8192, 8192, 0}
 #define AROUND_ZERO {"-1 <= x <= 1", OVER_VALUES, -1, 1, 0}
+#define EVERY_LARGE {"x >= 8192", OVER_PATTERNS, 8192, FLT_MAX, 0}
 #define BETWEEN {"a from b to m", OVER_PATTERNS, 0.001f, 0.316227766f, 0}
 #define BETWEEN_FITTED {"a from b to m; C fitted", OVER_PATTERNS, 0.001f, 0.316227766f, 0}
 #define CHANNEL 0.001f, 0.316227766f, 100, 200
@@ -57,8 +58,10 @@ enum evenly { OVER_PATTERNS, OVER_VALUES, IN_LISTS };
     LINE(logarithm, ear_log2, ear_log2(x, &y), "log2f", y = log2f(x), EVERY_NORMAL) \
     LINE(sine, ear_sin, ear_sin(x, &y), "sinf", y = sinf(x), EVERY_ANGLE) \
     LINE(small_sine, ear_sin, ear_sin(x, &y), "sinf", y = sinf(x), AROUND_ZERO) \
+    LINE(large_sine, ear_sin, ear_sin(x, &y), "sinf", y = sinf(x), EVERY_LARGE) \
     LINE(cosine, ear_cos, ear_cos(x, &y), "cosf", y = cosf(x), EVERY_ANGLE) \
     LINE(small_cosine, ear_cos, ear_cos(x, &y), "cosf", y = cosf(x), AROUND_ZERO) \
+    LINE(large_cosine, ear_cos, ear_cos(x, &y), "cosf", y = cosf(x), EVERY_LARGE) \
     LINE(sine_of_pi_x, ear_sinpi, ear_sinpi(x, &y), "sine_of_pi", y = sine_of_pi(x), EVERY_ANGLE) \
     LINE(cosine_of_pi_x, ear_cospi, ear_cospi(x, &y), "cosine_of_pi", y = cosine_of_pi(x), EVERY_ANGLE) \
     DOT(LINE, 16) DOT(LINE, 64) DOT(LINE, 1024) DOT(LINE, 65536) \

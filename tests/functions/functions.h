@@ -21,8 +21,8 @@ static const struct function functions[] = {
     {"ear_log2", ear_log2, 0x1p-126f, FLT_MAX, binary_logarithm, near_logarithm, 33 * 0x1p-29, RISES, NULL},
     {"ear_sinpi", ear_sinpi, -0x1.fffffep21f, 0x1.fffffep21f, sine_of_pi, near_wave_of_pi, 17 * 0x1p-29, ANY_ORDER, NULL},
     {"ear_cospi", ear_cospi, -0x1.fffffep21f, 0x1.fffffep21f, cosine_of_pi, near_wave_of_pi, 17 * 0x1p-29, ANY_ORDER, NULL},
-    {"ear_sin", ear_sin, -8192.0f, 8192.0f, sin, near_wave, 17 * 0x1p-29, ANY_ORDER, NULL},
-    {"ear_cos", ear_cos, -8192.0f, 8192.0f, cos, near_wave, 17 * 0x1p-29, ANY_ORDER, NULL},
+    {"ear_sin", ear_sin, -FLT_MAX, FLT_MAX, sin, near_wave, 17 * 0x1p-29, ANY_ORDER, NULL},
+    {"ear_cos", ear_cos, -FLT_MAX, FLT_MAX, cos, near_wave, 17 * 0x1p-29, ANY_ORDER, NULL},
 };
 
 enum { FUNCTIONS = sizeof functions / sizeof functions[0] };

@@ -98,9 +98,20 @@ static void document_01(void)
     good = refused_at(logarithm, 0x007fffff) && refused_at(logarithm, 0x00000000) && refused_at(logarithm, 0x80000000);
     group(good && refused_at(logarithm, 0xbf800000), "log2 refuses the greatest subnormal, both zeros and -1");
 
-    good = refused_at(line_of(ear_sin), 0x46000001) && refused_at(line_of(ear_sin), 0xc6000001);
-    good &= refused_at(line_of(ear_cos), 0x46000001) && refused_at(line_of(ear_cos), 0xc6000001);
-    group(good, "sin x and cos x refuse the floats next to 8192 and -8192");
+}
+
+/* Since Q4. */
+static void any_phase(void)
+{
+    int accepted = 0;
+    for (size_t i = 0; i < COUNT(edge_cases); i++) {
+        float sine, cosine, x = float_of(edge_cases[i]);
+        accepted += ear_sin(x, &sine) == EAR_OK && ear_cos(x, &cosine) == EAR_OK;
+    }
+    bool good = refused_at(line_of(ear_sin), 0x7f800000) && refused_at(line_of(ear_sin), 0xff800000);
+    good &= refused_at(line_of(ear_cos), 0x7f800000) && refused_at(line_of(ear_cos), 0xff800000);
+    group(good && accepted == COUNT(edge_cases), "sin x and cos x refuse both infinities, and accept %d of %zu finite edge cases",
+          accepted, COUNT(edge_cases));
 }
 
 int main(void)
@@ -108,5 +119,6 @@ int main(void)
     for (int i = 0; i < FUNCTIONS; i++)
         refusals_of(&functions[i]);
     document_01();
+    any_phase();
     return verdict();
 }

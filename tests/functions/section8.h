@@ -1,4 +1,4 @@
-/* Document 01, section 8. */
+/* Document 01, section 8, and document 02, Q4. */
 #ifndef SECTION8_H
 #define SECTION8_H
 
@@ -41,7 +41,7 @@ static const uint32_t logarithm_rows[][2] = {
 
 enum { LOGARITHM_ROWS = sizeof logarithm_rows / sizeof logarithm_rows[0] };
 
-/* The digits of sin(pi x), sin x and cos x, where they are not exactly 0 or 1. */
+/* The digits of sin(pi x), sin x and cos x, where they are not exactly 0 or 1. Those of the greatest floats are document 02's, Q4. */
 static const struct wave_row {
     const char *name;
     single call;
@@ -52,6 +52,10 @@ static const struct wave_row {
     {"ear_sin", ear_sin, 0x40490fdb, -8.7422780003725e-8},
     {"ear_sin", ear_sin, 0x46000000, -0.95617315284315},
     {"ear_cos", ear_cos, 0x46000000, 0.2928018131467},
+    {"ear_sin", ear_sin, 0x7f7fffff, -0.52187652333366},
+    {"ear_cos", ear_cos, 0x7f7fffff, 0.8530210398303},
+    {"ear_sin", ear_sin, 0xff7fffff, 0.52187652333366},
+    {"ear_cos", ear_cos, 0xff7fffff, 0.8530210398303},
 };
 
 enum { WAVE_ROWS = sizeof wave_rows / sizeof wave_rows[0] };

@@ -1,4 +1,4 @@
-/* Document 01's values, by bit pattern. */
+/* Document 01's values, and those of the change requests, by bit pattern. */
 #include <inttypes.h>
 #include <math.h>
 #include <stdio.h>
@@ -130,7 +130,7 @@ static void waves(void)
         whole += gives("ear_sinpi", ear_sinpi, whole_waves[i][0], whole_waves[i][1]);
         whole += gives("ear_cospi", ear_cospi, whole_waves[i][0], whole_waves[i][2]);
     }
-    group(rows == WAVE_ROWS, "sin and cos: %d of %d values of document 01, section 8, within 17 * 2^-29", rows, WAVE_ROWS);
+    group(rows == WAVE_ROWS, "sin and cos: %d of %d values of document 01, section 8, and document 02, Q4, within 17 * 2^-29", rows, WAVE_ROWS);
     group(whole == 2 * WHOLE_WAVES, "ear_sinpi, ear_cospi: %d of %d exact values where 2x is whole, +0 among them", whole,
           2 * WHOLE_WAVES);
 }

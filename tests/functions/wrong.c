@@ -164,8 +164,8 @@ static uint32_t accepts_subnormals(float x, float *out)
 /* Section 9, 5: quarter turns taken off with pi/2 as one float. */
 static uint32_t quarter_as_one_float(float x, float *out)
 {
-    if (!(x >= -8192 && x <= 8192))
-        return EAR_OUT_OF_RANGE;
+    if (!(fabsf(x) <= 8192))
+        return ear_sin(x, out);
     const double quarter = 1.57079637f; /* the float next to pi/2 */
     double quarters = rint(x / quarter);
     double rest = x - quarters * quarter;
@@ -210,9 +210,24 @@ static uint32_t wave_cut_off(float x, float *out)
     return code;
 }
 
-static uint32_t accepts_more_than_8192(float x, float *out)
+static uint32_t accepts_infinity(float x, float *out)
 {
-    return ear_sin(x > 8192 && x < 8200 ? 8192 : x, out);
+    return ear_sin(isinf(x) ? FLT_MAX : x, out);
+}
+
+/* As before Q4. */
+static uint32_t refuses_above_8192(float x, float *out)
+{
+    return fabsf(x) <= 8192 ? ear_sin(x, out) : EAR_OUT_OF_RANGE;
+}
+
+/* Whole turns taken off with the 53 digits of a double, which is enough up to 2^27 or so. */
+static uint32_t turn_as_one_double(float x, float *out)
+{
+    uint32_t code = ear_sin(x, out);
+    if (code == EAR_OK)
+        *out = (float)sin(fmod(x, 6.283185307179586));
+    return code;
 }
 
 static const struct wrong {
@@ -245,7 +260,9 @@ static const struct wrong {
     {"a sin(pi x) that is -0 at -1", minus_zero_at_whole_numbers, ear_sinpi, 0xbf800000, WRONG_VALUE},
     {"a cos x that is above 1 at 0", above_one, ear_cos, 0x00000000, WRONG_VALUE},
     {"a cos(pi x) that is cut off", wave_cut_off, ear_cospi, 0x3e4ccccd, WRONG_VALUE},
-    {"a sin x that accepts 8193", accepts_more_than_8192, ear_sin, 0x46000400, WRONG_CODE},
+    {"a sin x that accepts infinity", accepts_infinity, ear_sin, 0x7f800000, WRONG_CODE},
+    {"a sin x that refuses above 8192", refuses_above_8192, ear_sin, 0x46000001, WRONG_CODE},
+    {"a sin x with 2 pi as one double", turn_as_one_double, ear_sin, 0x7f7fffff, WRONG_VALUE},
 };
 
 enum { WRONGS = sizeof wrongs / sizeof wrongs[0] };

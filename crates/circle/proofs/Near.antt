@@ -112,7 +112,7 @@ module _ (x : Float) (a : Accepts x) where
 
   pub sin-is : sinOf x ≡ wave ((t + cond (negative x) 1 0 * 2 ^ 63) % 2 ^ 64)
   unfolding sinOf halfOn
-  sin-is = rw (sign-bit x (a .number)) refl
+  sin-is = rw (sign-bit x a) refl
 
   pub cos-is : cosOf x ≡ wave ((t + 2 ^ 62) % 2 ^ 64)
   unfolding cosOf quarterOn

@@ -1,19 +1,15 @@
--- The ranges by the bit pattern of a size: 2 ^ 22 has the digits 0x800000 with the exponent 148, and 8192 has them with 139. Assumes nothing.
+-- The ranges by the bit pattern of a size: 2 ^ 22 has the digits 0x800000 with the exponent 148, and infinity is above every finite size. Assumes nothing.
 use mathlib.Core.Logic.{inr}
 use Prim.Native.Nat.{_%_, _≤_, _<_}
 use native.Mathlib.Nat.{not-le-of-lt}
 use native.Mathlib.Omega.{arith}
 use lib.Dec.{T}
 use lib.Ieee.{Float, binary32, fits, toBits}
-use Rattle.units.proofs.Patterns.{Shape, within, beyond, within-less, beyond-or-at}
-use Rattle.units.proofs.Between.{size-between, between-size}
+use Rattle.units.proofs.Patterns.{Shape, within-less, beyond-or-at, finite-below, below-infinity}
 use Rattle.circle.specs.Promise.{AcceptsPi, Accepts}
 
 pi-top : Shape 0x800000 148
 pi-top = record { few = omega arith; first = inr (omega arith) }
-
-top : Shape 0x800000 139
-top = record { few = omega arith; first = inr (omega arith) }
 
 module _ (x : Float) where
   pub in-pi-range : T (fits binary32 x) → toBits binary32 x % 2147483648 < 0x4a800000 → AcceptsPi x
@@ -22,8 +18,8 @@ module _ (x : Float) where
   pub out-of-pi-range : 0x4a800000 ≤ toBits binary32 x % 2147483648 → ¬ AcceptsPi x
   out-of-pi-range l a = not-le-of-lt (a .below) (beyond-or-at 0x800000 148 pi-top x (a .number) l)
 
-  pub in-range : T (fits binary32 x) → toBits binary32 x % 2147483648 ≤ 0x46000000 → Accepts x
-  in-range f l = let (n, m) = within 0x800000 139 top x (omega arith) f l in size-between n m
+  pub in-range : T (fits binary32 x) → toBits binary32 x % 2147483648 < 0x7f800000 → Accepts x
+  in-range f l = finite-below x f l
 
-  pub out-of-range : 0x46000000 < toBits binary32 x % 2147483648 → ¬ Accepts x
-  out-of-range l a = not-le-of-lt (beyond 0x800000 139 top x (a .number) l) (between-size a)
+  pub out-of-range : 0x7f800000 ≤ toBits binary32 x % 2147483648 → ¬ Accepts x
+  out-of-range l a = not-le-of-lt (below-infinity x a) l

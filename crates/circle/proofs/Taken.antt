@@ -2,21 +2,21 @@
 use mathlib.Core.Path.{_≡_, refl, sym, ap, _∙_}
 use mathlib.Core.Logic.{_⊎_, inl, inr}
 use Prim.Native.Nat.{ℕ, suc, _+_, _-_, _*_, _/_, _%_, _^_, _≤_, _<_}
-use native.Mathlib.Nat.{le-trans, le-of-eq, le-of-lt, lt-of-le-of-lt, lt-of-lt-of-le, mul-comm, mul-zero, mul-le-mul-left, mul-le-mul-right, mul-lt-mul-of-pos-right, mul-div-mul-right, div-eq-of-lt, add-mul-mod-self-right, le-of-suc-le-suc, pow-suc}
+use native.Mathlib.Nat.{le-of-eq, le-of-lt, lt-of-le-of-lt, lt-of-lt-of-le, mul-comm, mul-zero, mul-le-mul-left, mul-lt-mul-of-pos-right, mul-div-mul-right, div-eq-of-lt, add-mul-mod-self-right, le-of-suc-le-suc, pow-suc}
 use native.Mathlib.Omega.{arith}
 use lib.Dec.{lit≤}
-use lib.Pow.{pow-add, pow-pos, pow-mono}
+use lib.Pow.{pow-pos, pow-mono}
 use lib.Ieee.{Float, binary32, toBits}
 use Rattle.units.specs.Units.{mag, Number}
-use Rattle.units.proofs.Naturals.{le-or-lt, pow-back}
-use Rattle.units.proofs.Between.{between-size}
+use Rattle.units.proofs.Naturals.{le-or-lt}
+use Rattle.units.proofs.Patterns.{below-infinity}
 use Rattle.exact.proofs.Limits.{Both}
 use Rattle.fixed.proofs.Either.{Normal, Subnormal, size-bits}
 use Rattle.circle.specs.Phase.{significandOf, exponentField, halfTurns, windowOf, radians}
 use Rattle.circle.specs.Promise.{Accepts}
 use Rattle.circle.proofs.Method.{D}
 use Rattle.circle.proofs.Pattern.{plusOf, minusOf}
-use Rattle.circle.proofs.Window.{turnsOf, window-turns}
+use Rattle.circle.proofs.Window.{turnsOf, windows, window-turns}
 use Rattle.circle.proofs.Reduction.{turns-arrived, still-arrived}
 
 -- the pattern of a float's size
@@ -51,19 +51,9 @@ module _ (x : Float) (a : Accepts x) where
   abbrev b : ℕ
   b = sizeBits x
 
-  -- the exponent of a size up to 8192
-  low-exponent : exponentField b ≤ 140
-  low-exponent = go (size-bits x (a .number))
-    where
-      go : Normal x b ⊎ Subnormal x b → exponentField b ≤ 140
-      go (inr s) = rw (s .none) (omega arith)
-      go (inl n) =
-          let l : 2 ^ (23 + exponentField b) ≤ 2 ^ 163 = le-trans (le-of-eq (pow-add 2 23 (exponentField b))) (le-trans (mul-le-mul-right (2 ^ exponentField b) (least b)) (le-trans (le-of-eq (sym (n .units))) (mul-le-mul-left 2 (between-size a)))) in
-          let e = pow-back (23 + exponentField b) 163 l in
-          omega arith
-        where
-          least : (b : ℕ) → 2 ^ 23 ≤ significandOf b
-          least b = omega arith
+  -- the exponent of a finite size
+  top-exponent : exponentField b ≤ 254
+  top-exponent = let l : b < 2139095040 = below-infinity x a in omega arith
 
   abbrev t : ℕ
   t = radians b
@@ -77,7 +67,7 @@ module _ (x : Float) (a : Accepts x) where
   far h units =
       let i = exponentField b - 86 in
       let W = turnsOf i in
-      let place : i < 55 = let l = low-exponent in omega arith in
+      let place : i < windows = let l = top-exponent in omega arith in
       let reduced : significandOf b * windowOf i % 2 ^ 64 ≡ significandOf b * W % 2 ^ 64 = ap (λ (n : ℕ). significandOf b * n % 2 ^ 64) (window-turns i place) ∙ mul-mod-rest (significandOf b) W in
       let on : (significandOf b * windowOf i % 2 ^ 64 + 2 ^ 62) % 2 ^ 64 ≡ (significandOf b * W + 2 ^ 62) % 2 ^ 64 = ap (λ (n : ℕ). (n + 2 ^ 62) % 2 ^ 64) reduced ∙ add-rest (significandOf b * W) in
       rw (on, reduced) (turns-arrived (mag x) (significandOf b) i (omega arith) (omega arith) halved)
@@ -118,7 +108,7 @@ module _ (x : Float) (a : Accepts x) where
       twice m = omega arith
 
   pub radians-taken : Result
-  radians-taken = go (size-bits x (a .number)) (le-or-lt 86 (exponentField b))
+  radians-taken = go (size-bits x a) (le-or-lt 86 (exponentField b))
     where
       go : Normal x b ⊎ Subnormal x b → (86 ≤ exponentField b) ⊎ (exponentField b < 86) → Result
       go (inl n) (inl l) = far l (n .units)

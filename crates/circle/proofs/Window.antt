@@ -3,13 +3,12 @@
 use mathlib.Core.Path.{_≡_}
 use mathlib.Core.Logic.{inl, inr}
 use mathlib.Core.Bool.{Bool, true, _&&_}
-use Prim.Native.Nat.{ℕ, zero, suc, _*_, _/_, _%_, _^_, _<_}
-use native.Mathlib.Nat.{le-of-suc-le-suc, eq-or-lt-of-le, lt-of-le-of-lt, le-of-eq, mod-lt}
+use Prim.Native.Nat.{ℕ, zero, suc, _-_, _*_, _/_, _%_, _^_, _<_}
+use native.Mathlib.Nat.{le-of-suc-le-suc, eq-or-lt-of-le}
 use native.Mathlib.Omega.{arith}
 use lib.Dec.{T, eqb, eqb→eq}
-use lib.Pow.{pow-pos}
 use lib.Ieee.Fits.{and-l, and-r}
-use Rattle.circle.specs.Phase.{windowOf}
+use Rattle.circle.specs.Phase.{firstWord, firstDigits, windowOf}
 use Rattle.exact.specs.Circle.{quarter, quarterUnit}
 
 -- a test of every number below k
@@ -35,18 +34,30 @@ windowTest i = eqb (windowOf i) (turnsOf i % 2 ^ 64)
 
 -- how many windows the table makes
 abbrev pub windows : ℕ
-windows = 55
+windows = 169
 
 windows-pass : T (all windowTest windows)
 unfolding all windowTest windowOf turnsOf quarter quarterUnit
 windows-pass = tt
 
-module _ (i : ℕ) (h : i < windows) where
-  -- a window is those turns
-  pub window-turns : windowOf i ≡ turnsOf i % 2 ^ 64
-  unfolding windowTest
-  window-turns = eqb→eq (windowOf i) (turnsOf i % 2 ^ 64) (all-sound windowTest windows windows-pass i h)
+-- a window is those turns
+pub window-turns : (i : ℕ) → i < windows → windowOf i ≡ turnsOf i % 2 ^ 64
+unfolding windowTest
+window-turns i h = eqb→eq (windowOf i) (turnsOf i % 2 ^ 64) (all-sound windowTest windows windows-pass i h)
 
-  -- and has 64 digits
-  pub window-few : windowOf i < 2 ^ 64
-  window-few = lt-of-le-of-lt (le-of-eq window-turns) (mod-lt (turnsOf i) (pow-pos 64))
+-- ---- the first windows are the first digits, cut off
+unfoldable cutTest : ℕ → ℕ → ℕ → Bool
+cutTest digits count i = eqb (digits / 2 ^ (count - i)) (windowOf i)
+
+cut-passes : (T (all (cutTest firstWord 31) 32)) × (T (all (cutTest firstDigits 63) 64))
+unfolding all cutTest windowOf
+cut-passes = (tt, tt)
+
+module _ (i : ℕ) where
+  pub first-word : i < 32 → firstWord / 2 ^ (31 - i) ≡ windowOf i
+  unfolding cutTest
+  first-word h = eqb→eq (firstWord / 2 ^ (31 - i)) (windowOf i) (all-sound (cutTest firstWord 31) 32 (cut-passes .0) i h)
+
+  pub first-digits : i < 64 → firstDigits / 2 ^ (63 - i) ≡ windowOf i
+  unfolding cutTest
+  first-digits h = eqb→eq (firstDigits / 2 ^ (63 - i)) (windowOf i) (all-sound (cutTest firstDigits 63) 64 (cut-passes .1) i h)

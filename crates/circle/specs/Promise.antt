@@ -4,7 +4,7 @@ use mathlib.Core.List.{List, [], _∷_}
 use Prim.Native.Nat.{ℕ, _+_, _*_, _%_, _^_, _≤_, _<_}
 use lib.ListN.{getD}
 use lib.Ieee.{Float, binary32, ofBits}
-use Rattle.units.specs.Units.{mag, P, N, Number, Between}
+use Rattle.units.specs.Units.{mag, P, N, Number}
 use Rattle.units.specs.Answers.{Answers}
 use Rattle.exact.specs.Circle.{Signed, signed, bound, Sine, Cosine, quarter, quarterUnit}
 use Rattle.circle.specs.Wave.{sinPiOf, cosPiOf, sinOf, cosOf}
@@ -14,9 +14,9 @@ pub record AcceptsPi (x : Float) : Type 0 where
   pub number : Number x
   pub below : mag x < 2 ^ 22 * 2 ^ 149
 
--- accepted by sin x and cos x: the finite floats from -8192 to 8192
+-- accepted by sin x and cos x: every finite float
 abbrev pub Accepts : Float → Type 0
-Accepts = Between (8192 * 2 ^ 149) (8192 * 2 ^ 149)
+Accepts = Number
 
 -- the proved error of x itself, 17 / 2 ^ 29: half a step of a result up to 1 is 16, and all before the last rounding shares the rest. Document 01 asks for 1 / 2 ^ 22
 abbrev pub waveErrorNum : ℕ

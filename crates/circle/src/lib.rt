@@ -12,8 +12,11 @@ ghost use Rattle.circle.specs.Promise.{SinPi, CosPi, Sin, Cos};
 // The pattern of 2^22, which phases of pi x are below.
 const LATEST: u32 = 0x4a80_0000;
 
-// The pattern of 8192.
-const LARGEST: u32 = 0x4600_0000;
+// The pattern of 2^23, below which a phase is taken the short way.
+const FAR: u32 = 0x4b00_0000;
+
+// The pattern of infinity, which that of every finite size is below.
+const INFINITY: u32 = 0x7f80_0000;
 
 // One step of Horner's rule with alternating signs: the upper half of the product of two 32-bit numbers is taken away.
 fn step(c: u32, p: u32, z: u32) -> u32
@@ -105,7 +108,7 @@ pub fn cospi(x: f32, out: &mut u32) -> u32
     1
 }
 
-// sin x, x from -8192 to 8192; code 1 and nothing written where x is anything else.
+// sin x of every finite x; code 1 and nothing written where x is a NaN or an infinity.
 pub fn sin(x: f32, out: &mut u32) -> u32
     ensures { λ code. ⌜ Ends floatBits (Sin x) code (now (out .entry)) (now (out .exit)) ⌝ }
 {
@@ -114,11 +117,15 @@ pub fn sin(x: f32, out: &mut u32) -> u32
     }
     let b = f32::to_bits(x);
     let size = b % 2147483648;
-    if size <= LARGEST {
-        *out = sine(phase::radians(size), b / 2147483648);
-        return 0;
-    }
-    1
+    let phase = if size < FAR {
+        phase::radians(size)
+    } else if size < INFINITY {
+        phase::far_radians(size)
+    } else {
+        return 1;
+    };
+    *out = sine(phase, b / 2147483648);
+    0
 }
 
 // cos x, likewise.
@@ -129,9 +136,13 @@ pub fn cos(x: f32, out: &mut u32) -> u32
         return 1;
     }
     let size = f32::to_bits(x) % 2147483648;
-    if size <= LARGEST {
-        *out = cosine(phase::radians(size));
-        return 0;
-    }
-    1
+    let phase = if size < FAR {
+        phase::radians(size)
+    } else if size < INFINITY {
+        phase::far_radians(size)
+    } else {
+        return 1;
+    };
+    *out = cosine(phase);
+    0
 }

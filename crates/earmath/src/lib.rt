@@ -73,7 +73,7 @@ pub extern "C" fn ear_cospi(x: f32, out: &mut u32) -> u32
     circle::cospi(x, out)
 }
 
-// sin x of every bit pattern from -8192 to 8192: within 17 / 2^29 of it, or code 1 and nothing written.
+// sin x of every bit pattern that is a finite float: within 17 / 2^29 of it, or code 1 and nothing written.
 #[no_mangle]
 pub extern "C" fn ear_sin(x: f32, out: &mut u32) -> u32
     ensures { λ code. ⌜ Ends floatBits (Sin x) code (now (out .entry)) (now (out .exit)) ⌝ }
