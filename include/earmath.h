@@ -196,6 +196,26 @@ uint32_t ear_softmax2(const float *x, uint64_t nx, float *p, uint64_t np);
 uint32_t ear_softmax2_in_place(float *p, uint64_t n);
 
 /*
+ * The transform of 128 values: X_k = sum of x[n] e^(-2 pi i k n / 128), k = 0 to 64.
+ *
+ * Accepts: nx = 128 floats below 2^120 in size, subnormal ones and zeros too, with
+ *          nre = nim = 65 places for the real and the imaginary parts.
+ * Error:   each part is within 2^-24 of its own exact size, 2^-42 of the largest
+ *          |x[n]| and 2^-150 of the exact sum; and the root of the sum of all
+ *          squared errors is at most 10^-7 of that of the exact parts, and 2^-146.
+ * Zero:    no part is -0; a frame of zeros gives +0 in every part.
+ * Refuses: with the first of these codes that applies; both lists stay as they
+ *          were, since nothing is written before every input was judged.
+ *          EAR_BAD_LENGTH unless nx is 128 and nre and nim are 65;
+ *          EAR_OUT_OF_RANGE where an element is a NaN, infinite or of size 2^120
+ *          or more.
+ *
+ * x, re and im must be valid, aligned pointers to nx, nre and nim floats, and no
+ * two of the lists may overlap. A call needs 3.1 KB of stack on a Cortex-M4F.
+ */
+uint32_t ear_transform128(const float *x, uint64_t nx, float *re, uint64_t nre, float *im, uint64_t nim);
+
+/*
  * Softmax, base e: p[i] is e^x[i] over the sum of e^x[j] for all j. The same promise
  * as of ear_softmax2, with the same bounds, codes and order. (The least quotient is
  * about e^-128 or 2^-184.7: below 2^-149 the output is +0, and within one least float.)
@@ -246,6 +266,42 @@ uint32_t ear_loudness_top(uint32_t top, float b, float m, uint32_t t, uint32_t c
  */
 uint32_t ear_loudness_knee(uint32_t top, float b, float k, float m, uint32_t t, uint32_t kk, uint32_t c, float a,
                            uint32_t *out);
+
+/*
+ * From microphone to electrode: the current steps of n bands for a frame of 128
+ * samples.
+ *
+ * The exact path, all in real numbers: X_k, k = 0 to 64, is the transform of the
+ *          products w[n] x[n]; the envelope of a band is a = (sum of |X_k|, k from
+ *          lo to hi) / 64; its current is the exact map of a in the band's channel
+ *          b, m, t, c (see ear_loudness). A full-scale tone on a bin under a Hann
+ *          window gives a = 1 if its three bins are in the band.
+ * A band:  six words; b and m are floats, and the rest are whole numbers.
+ * Accepts: nx = nw = 128 samples and values of a window from -1 to 1, and n bands,
+ *          1 <= n <= 65, words = 6 n, nout = n; lo <= hi <= 64, and a channel as in
+ *          ear_loudness_top.
+ * Result:  a step from t to c for each band, at most 0.504 away from the exact
+ *          path's, and 0.501 where top is at most 255, whatever else is in the
+ *          frame. Silence gives t in every band. The current of a band is the same
+ *          whatever the other bands are.
+ * Order:   where every sample grows by one factor, no current falls by more than one.
+ * Refuses: with the first of these codes that applies; nothing is written before
+ *          all was judged.
+ *          EAR_BAD_LENGTH where a length is another;
+ *          EAR_BAD_CHANNEL where a band breaks a condition, top > 1023 among them;
+ *          EAR_OUT_OF_RANGE where a sample or a value of the window is a NaN or not
+ *          from -1 to 1.
+ *
+ * The lists must be valid and aligned, and out may overlap none of the others.
+ */
+struct ear_band {
+    uint32_t lo, hi; /* bins */
+    float b, m;      /* levels */
+    uint32_t t, c;   /* steps */
+};
+
+uint32_t ear_currents(uint32_t top, const float *x, uint64_t nx, const float *w, uint64_t nw,
+                      const struct ear_band *bands, uint64_t words, uint32_t *out, uint64_t nout);
 
 /*
  * The dot product as the nearest float: the sum of a[i] * b[i], rounded once.

@@ -14,7 +14,10 @@
 #include "earmath.h"
 #include "peers.h"
 
-enum { LONGEST = 65536, INPUTS = 2000, LISTS = 8, TRACED = 32, TRACED_LISTS = 2, DEEPEST = 1024, PAINT = 0x5a5a5a5a };
+enum {
+    LONGEST = 65536, VALUES = 128, PARTS = 65, BANDS = 22, INPUTS = 2000, LISTS = 8, TRACED = 32, TRACED_LISTS = 2, DEEPEST = 1536,
+    PAINT = 0x5a5a5a5a
+};
 
 union word {
     uint32_t bits;
@@ -33,6 +36,8 @@ enum evenly { OVER_PATTERNS, OVER_VALUES, IN_LISTS };
 #define BETWEEN {"a from b to m", OVER_PATTERNS, 0.001f, 0.316227766f, 0}
 #define BETWEEN_FITTED {"a from b to m; C fitted", OVER_PATTERNS, 0.001f, 0.316227766f, 0}
 #define CHANNEL 0.001f, 0.316227766f, 100, 200
+#define FRAMES {"a frame", IN_LISTS, -1, 1, VALUES}
+#define FRAMES_OF_22 {"a frame, 22 bands", IN_LISTS, -1, 1, VALUES}
 #define LISTS_OF(n) {"n = " #n, IN_LISTS, -4, 4, n}
 
 /* A dot product beside the plain loop in C, of any length. */
@@ -65,6 +70,10 @@ enum evenly { OVER_PATTERNS, OVER_VALUES, IN_LISTS };
          LISTS_OF(64)) \
     LINE(softmax_of_e, ear_softmax, ear_softmax(list, length, out, length), "softmax_of_e_in_c", \
          softmax_of_e_in_c(list, length, out), LISTS_OF(64)) \
+    LINE(transform, ear_transform128, ear_transform128(list, VALUES, out, PARTS, other, PARTS), "transform_in_c", \
+         transform_in_c(list, out, other), FRAMES) \
+    LINE(path, ear_currents, ear_currents(255, list, VALUES, other, VALUES, bands, 6 * BANDS, steps, BANDS), "currents_in_c", \
+         currents_in_c(list, other, bands, BANDS, steps), FRAMES_OF_22) \
     LINE(loudness_map, ear_loudness, ear_loudness(CHANNEL, x, &step), "map_in_c", map_in_c(CHANNEL, x, &step), BETWEEN) \
     LINE(fitted_map, ear_loudness, ear_loudness(CHANNEL, x, &step), "fitted_in_c", fitted_in_c(x, &step), \
          BETWEEN_FITTED)
@@ -72,6 +81,15 @@ enum evenly { OVER_PATTERNS, OVER_VALUES, IN_LISTS };
 static float list[LONGEST], other[LONGEST], out[LONGEST];
 static uint32_t length;
 static volatile float y_sink;
+static struct ear_band bands[BANDS];
+static uint32_t steps[BANDS];
+
+/* Bands as they are used: wider and wider from bin 2 on, over all bins up to 64. */
+static void make_bands(void)
+{
+    for (uint32_t i = 0; i < BANDS; i++)
+        bands[i] = (struct ear_band){2 + i * i / 8, 2 + (i + 1) * (i + 1) / 8, 0x1p-10f, 1, 100, 200};
+}
 
 static inline uint32_t now(void)
 {
@@ -129,11 +147,11 @@ static float drawn(enum evenly evenly, float low, float high)
 #define TRACE false /* true: a program that runs a few calls for a trace, and prints nothing */
 #endif
 
-/* The next input; of lists, the next lists, which stay as they are behind the first 64 where all is traced. */
+/* The next input; of lists, the next lists, which stay as they are behind the first 128 where all is traced. */
 static float next(const struct inputs *in)
 {
     length = in->length;
-    for (uint32_t i = 0; in->evenly == IN_LISTS && i < (TRACE && length > 64 ? 64 : length); i++) {
+    for (uint32_t i = 0; in->evenly == IN_LISTS && i < (TRACE && length > VALUES ? VALUES : length); i++) {
         list[i] = drawn(OVER_VALUES, in->from, in->to);
         other[i] = drawn(OVER_VALUES, in->from, in->to);
     }
@@ -209,6 +227,8 @@ int main(void)
     *(volatile uint32_t *)0x40000008 = 0xffffffff; /* the timer's reload */
     *(volatile uint32_t *)0x40000000 = 1;
     fit_in_c(CHANNEL);
+    turns_in_c();
+    make_bands();
     for (int i = 0; i < CONTESTS_HELD; i++)
         for (int who = 0; who < 2; who++) {
             (TRACE ? traced : held)(&contests[i], who);

@@ -66,3 +66,20 @@ uint32_t fitted_in_c(float a, uint32_t *out)
         *out = fitted.channel.t + (uint32_t)(0.5f + fitted.slope * (log2f(a) - fitted.log_b));
     return EAR_OK;
 }
+
+static struct turn turns[32];
+
+void turns_in_c(void)
+{
+    straight_turns(cosf, sinf, turns);
+}
+
+void transform_in_c(const float *x, float *re, float *im)
+{
+    straight_transform(turns, x, re, im);
+}
+
+void currents_in_c(const float *x, const float *w, const struct ear_band *bands, uint32_t n, uint32_t *out)
+{
+    straight_currents(turns, newlib_sqrtf, log2f, x, w, bands, n, out);
+}

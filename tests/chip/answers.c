@@ -125,6 +125,29 @@ static void ask_softmax(const struct asked *f, uint32_t pattern, struct answer *
     a->code = f->call.softmax(&x[0].value, nx, &a->after[GUARD].value, np);
 }
 
+/* The real parts, a place between, and the imaginary parts. */
+static void ask_transform(const struct asked *f, uint32_t pattern, struct answer *a)
+{
+    enum { VALUES = 128, PARTS = 65 };
+    static union word x[VALUES];
+    /* exponents: all that are accepted; or subnormal and next to it; or of sounds; or next to the greatest */
+    static const uint32_t lowest[] = {0, 0, 100, 239}, count[] = {247, 2, 28, 8};
+    uint32_t state = pattern, way = draw(&state);
+    for (int i = 0; i < VALUES; i++)
+        x[i] = drawn_float(&state, lowest[way % 4], count[way % 4]);
+    if (way % 64 == 63)
+        x[way / 64 % VALUES].bits = draw(&state) | 0x7b800000;
+    preset(a, 2 * PARTS + 1, pattern);
+    float *re = &a->after[GUARD].value, *im = &a->after[GUARD + PARTS + 1].value;
+    uint32_t more = way / 1024 % 2;
+    switch (way % 64) {
+    case 0: a->code = f->call.transform(&x[0].value, VALUES - 1 + 2 * more, re, PARTS, im, PARTS); break;
+    case 1: a->code = f->call.transform(&x[0].value, VALUES, re, PARTS - 1 + 2 * more, im, PARTS); break;
+    case 2: a->code = f->call.transform(&x[0].value, VALUES, re, PARTS, im, PARTS - 1 + 2 * more); break;
+    default: a->code = f->call.transform(&x[0].value, VALUES, re, PARTS, im, PARTS); break;
+    }
+}
+
 struct channel {
     uint32_t b, m, t, c;
 };
@@ -164,6 +187,32 @@ static void ask_map(const struct asked *f, uint32_t pattern, struct answer *a)
     a->code = f->call.map(word(k.b).value, word(k.m).value, k.t, k.c, word(pattern).value, &a->after[GUARD].bits);
 }
 
+/* Bands of all kinds over one frame; one time in 16 something in them is refused. */
+static void ask_currents(const struct asked *f, uint32_t pattern, struct answer *a)
+{
+    enum { VALUES = 128 };
+    static union word x[VALUES], w[VALUES];
+    static struct ear_band bands[66];
+    static const uint32_t lowest[] = {0, 100, 120}, count[] = {127, 27, 7}; /* exponents: up to 1, near it */
+    uint32_t state = pattern, way = draw(&state), n = 1 + draw(&state) % 24, top = way & 64 ? 1023 : 255;
+    for (int i = 0; i < VALUES; i++) {
+        x[i] = drawn_float(&state, lowest[way % 3], count[way % 3]);
+        w[i] = drawn_float(&state, lowest[way / 4 % 3], count[way / 4 % 3]);
+    }
+    for (uint32_t i = 0; i < n; i++) {
+        struct channel k = draw_channel(&state);
+        uint32_t lo = draw(&state) % 65;
+        bands[i] = (struct ear_band){lo, lo + draw(&state) % (65 - lo), word(k.b).value, word(k.m).value, k.t, k.c};
+    }
+    if (way >> 8 & 15) /* else drawn channels may break their conditions */
+        for (uint32_t i = 0; i < n; i++)
+            bands[i] = (struct ear_band){bands[i].lo, bands[i].hi, 0x1p-20f, 0.5f, 3, 200};
+    if ((way >> 12 & 63) == 0)
+        x[way >> 20 & 127].bits = draw(&state);
+    preset(a, n, pattern);
+    a->code = f->call.currents(top, &x[0].value, VALUES - (way >> 18 == 5), &w[0].value, VALUES, bands, 6 * n + (way >> 18 == 6), &a->after[GUARD].bits, n);
+}
+
 #define SINGLE(function) {#function, ask_single, {.single = function}, 1 << EAR_OK | 1 << EAR_OUT_OF_RANGE, 1, false}
 
 const struct asked every_function[] = {
@@ -185,6 +234,10 @@ const struct asked every_function[] = {
      1 << EAR_OK | 1 << EAR_OUT_OF_RANGE | 1 << EAR_BAD_LENGTH, 16, false},
     {"ear_softmax", ask_softmax, {.softmax = ear_softmax},
      1 << EAR_OK | 1 << EAR_OUT_OF_RANGE | 1 << EAR_BAD_LENGTH, 16, false},
+    {"ear_transform128", ask_transform, {.transform = ear_transform128},
+     1 << EAR_OK | 1 << EAR_OUT_OF_RANGE | 1 << EAR_BAD_LENGTH, 64, false},
+    {"ear_currents", ask_currents, {.currents = ear_currents},
+     1 << EAR_OK | 1 << EAR_OUT_OF_RANGE | 1 << EAR_BAD_LENGTH | 1 << EAR_BAD_CHANNEL, 64, false},
     {"ear_loudness", ask_map, {.map = ear_loudness}, 1 << EAR_OK | 1 << EAR_OUT_OF_RANGE | 1 << EAR_BAD_CHANNEL, 1, false},
 };
 

@@ -9,6 +9,8 @@
 #include <stdbool.h>
 #include <stdint.h>
 
+#include "earmath.h"
+
 enum { PLACES = 1024, GUARD = 1 };
 
 union word {
@@ -31,6 +33,9 @@ struct asked {
         uint32_t (*single)(float x, float *out);
         uint32_t (*dot)(const float *a, uint64_t na, const float *b, uint64_t nb, float *out);
         uint32_t (*softmax)(const float *x, uint64_t nx, float *p, uint64_t np);
+        uint32_t (*transform)(const float *x, uint64_t nx, float *re, uint64_t nre, float *im, uint64_t nim);
+        uint32_t (*currents)(uint32_t top, const float *x, uint64_t nx, const float *w, uint64_t nw, const struct ear_band *bands,
+                             uint64_t words, uint32_t *out, uint64_t nout);
         uint32_t (*map)(float b, float m, uint32_t t, uint32_t c, float a, uint32_t *out);
     } call;
     uint32_t codes; /* the codes that it can return, bit 1 << code for each */

@@ -11,6 +11,8 @@ ghost use Rattle.powers.specs.Exp.{Exp};
 ghost use Rattle.logs.specs.Log2.{Log2};
 ghost use Rattle.circle.specs.Promise.{SinPi, CosPi, Sin, Cos};
 ghost use Rattle.sums.specs.Dot.{Dot};
+ghost use Rattle.spectrum.specs.Transform.{Transform, bothBits};
+ghost use Rattle.path.specs.Path.{Currents, asTheyAre};
 ghost use Rattle.exactsums.specs.Nearest.{NearestDot};
 ghost use Rattle.powers.specs.Base.{two, natural};
 ghost use Rattle.weights.specs.Softmax.{Softmax, floatsOf};
@@ -161,6 +163,28 @@ pub extern "C" fn ear_loudness_knee(
     ensures { λ code. ⌜ Ends itself (LoudnessKnee top b k m t kk c a) code (now (out .entry)) (now (out .exit)) ⌝ }
 {
     loudness::knee::loudness_knee(top, b, k, m, t, kk, c, a, out)
+}
+
+// The transform of 128 floats, parts 0 to 64: each within 2^-24 of its size, 2^-42 of the largest value and 2^-150, or code 2 or 1 and nothing written.
+#[no_mangle]
+pub extern "C" fn ear_transform128(x: &[f32], re: &mut [u32], im: &mut [u32]) -> u32
+    ensures { λ code. ⌜ Ends bothBits (Transform (now (x .entry)) (length (now (re .entry))) (length (now (im .entry)))) code (now (re .entry), now (im .entry)) (now (re .exit), now (im .exit)) ⌝ }
+{
+    spectrum::transform(x, re, im)
+}
+
+// The currents of up to 65 bands of a windowed frame, each within 0.504 of a step of the exact path's, or code 2, 4 or 1 and nothing written.
+#[no_mangle]
+pub extern "C" fn ear_currents(
+    top: u32,
+    x: &[f32],
+    w: &[f32],
+    bands: &[u32],
+    out: &mut [u32],
+) -> u32
+    ensures { λ code. ⌜ Ends asTheyAre (Currents top (now (x .entry)) (now (w .entry)) (now (bands .entry)) (length (now (out .entry)))) code (now (out .entry)) (now (out .exit)) ⌝ }
+{
+    path::currents(top, x, w, bands, out)
 }
 
 // The sum of the products of two lists: the float nearest to the exact sum, or code 2 or 1 and nothing written.

@@ -139,7 +139,7 @@ module _ (x : Float) (m e S : ℕ) (a : Apart x m e) (near : IsNear (radicand m 
   }
 
 -- ---- the value function: of every number there is a nearest root, and one only
-near-root : (n S : ℕ) → 1 < S → IsNear n S → nearRoot n ≡ S
+pub near-root : (n S : ℕ) → 1 < S → IsNear n S → nearRoot n ≡ S
 unfolding nearRoot
 near-root n S two h = least-is (λ (q : ℕ). leb n (q * q + q)) S (le-leb n (S * S + S) (h .half-above)) (λ j l. lt-leb n (j * j + j) (before j l)) n small
   where

@@ -25,6 +25,15 @@ fn settle_root(n: u64, guess: u32) -> u32
     s
 }
 
+// The same from the number alone: its first 24 digits give the guess, as a float's would.
+pub fn nearest_root(n: u64) -> u64
+    requires { ⌜ (2 ^ 46 ≤ n) × (n < 2 ^ 48) ⌝ }
+    ensures { λ s. ⌜ IsNear n s ⌝ }
+{
+    let odd = (n / 140737488355328) as u32;
+    settle_root(n, guess::root((n / 8388608) as u32 >> odd, odd)) as u64
+}
+
 // The root of a float above zero, as a bit pattern: n has 47 or 48 digits, its root 24.
 fn root_bits(x: f32) -> u32
     requires { ⌜ Positive x ⌝ }

@@ -255,6 +255,14 @@ stride-of {st = st} {n = n} f e = one (2 ^ f .s) (f .size) (f .apart)
 pub stride-most : {y : List ℕ} {off st n : ℕ} → Fillable y off st n → st ≤ 32
 stride-most {st = st} f = omega (arith, mul-le-mul-right st (pow-pos (f .s)), f .apart)
 
+-- a block has at most 128 words
+pub quarter-most : (g st : ℕ) → g * st ≡ 32 → g ≤ 32
+quarter-most g zero e = absurd (omega arith)
+quarter-most g (suc st) e = omega arith
+
+pub words-most : {y : List ℕ} {off st n : ℕ} → Fillable y off st n → n ≤ 128
+words-most {st = st} f = omega (arith, quarter-most (2 ^ f .s) st (f .apart), f .size)
+
 pub some-words : (l : List ℕ) (x : ℕ) → length l ≡ 8 * x → 0 < x → 1 ≤ length l / 2 / 2
 some-words l x e p = omega arith
 

@@ -9,13 +9,12 @@ use native.Mathlib.Omega.{arith}
 use lib.Pow.{pow-pos}
 use lib.ListN.{getD}
 use lib.Ieee.{Float}
-use Rattle.units.specs.Units.{mag, negative, P, N}
+use Rattle.units.specs.Units.{mag, negative}
 use Rattle.units.proofs.Naturals.{le-or-lt}
-use Rattle.units.proofs.Signs.{size-sum}
 use Rattle.spectrum.specs.Difference.{Difference, whole, opposite, add, times, total, apart}
 use Rattle.spectrum.specs.Table.{unit, entry, cosineBelow, sineBelow, cosine, sine}
 use Rattle.spectrum.specs.Words.{valueOf}
-use Rattle.spectrum.specs.Transform.{at, unitsOf, turnedSum, Turns, Covers}
+use Rattle.spectrum.specs.Transform.{unitsOf, turnedTotal, Turns}
 use Rattle.spectrum.specs.Floats.{wordOf}
 use Rattle.spectrum.proofs.Differences.{Close, length, close-refl, close-sym, close-trans, close-weaken, close-times, close-by, close-unscale, swapped, total-close, total-times, total-length}
 use Rattle.spectrum.proofs.Turning.{cosine-length, sine-length}
@@ -78,18 +77,18 @@ chain E u U B a b c x v D S X pos room h g k =
     sums : (E u U B a b c x : ℕ) → E * (u * a) + u * b + B * c ≤ U * x → 0 + ((E + 0) * ((u + 0) * a) + (0 + ((u + 0) * b + (0 + ((B + 0) * c + 0))))) ≤ U * x
     sums E u U B a b c x h = omega arith
 
--- ---- the sums of a frame
-module _ (xs : List Float) (ys : List ℕ) (e : ℕ) (small : (n : ℕ) → n < 128 → mag (at xs n) < 2 ^ e) (loaded : (n : ℕ) → n < 128 → getD ys n unit ≡ wordOf e (at xs n)) where
+-- ---- the sums of values vs, of which the words are E-ths within a unit
+module _ (vs : ℕ → Difference) (ys : List ℕ) (E : ℕ) (word : (n : ℕ) → n < 128 → Close E (times (whole E) (valueOf (getD ys n unit))) (times (whole (2 ^ 53)) (vs n))) where
   abbrev Y : ℕ → Difference
   Y i = valueOf (getD ys i unit)
 
-  -- the plain sum of the words over the table, against that of the floats
-  plain-near : (w : ℕ → Difference) → ((j : ℕ) → length (w j) ≤ unit) → (k : ℕ) → Close (128 * (unit * 2 ^ e)) (times (whole (2 ^ e)) (plain Y w 0 1 k 128)) (times (whole (2 ^ 53)) (total (λ n. times (unitsOf (at xs n)) (w (k * n))) 128))
+  -- the plain sum of the words over the table, against that of the values
+  plain-near : (w : ℕ → Difference) → ((j : ℕ) → length (w j) ≤ unit) → (k : ℕ) → Close (128 * (unit * E)) (times (whole E) (plain Y w 0 1 k 128)) (times (whole (2 ^ 53)) (total (λ n. times (vs n) (w (k * n))) 128))
   plain-near w short k =
       close-weaken (omega arith)
-      (close-trans (total-times (whole (2 ^ e)) (λ m. times (Y (0 + m * 1)) (w (k * (m * 1)))) 128)
-      (close-trans (total-close (unit * 2 ^ e) (λ m. times (whole (2 ^ e)) (times (Y (0 + m * 1)) (w (k * (m * 1))))) (λ m. times (whole (2 ^ 53)) (times (unitsOf (at xs m)) (w (k * m)))) 128 term)
-      (close-sym (total-times (whole (2 ^ 53)) (λ n. times (unitsOf (at xs n)) (w (k * n))) 128))))
+      (close-trans (total-times (whole E) (λ m. times (Y (0 + m * 1)) (w (k * (m * 1)))) 128)
+      (close-trans (total-close (unit * E) (λ m. times (whole E) (times (Y (0 + m * 1)) (w (k * (m * 1))))) (λ m. times (whole (2 ^ 53)) (times (vs m) (w (k * m)))) 128 term)
+      (close-sym (total-times (whole (2 ^ 53)) (λ n. times (vs n) (w (k * n))) 128))))
     where
       place : (m : ℕ) → 0 + m * 1 ≡ m
       place m = omega arith
@@ -97,53 +96,44 @@ module _ (xs : List Float) (ys : List ℕ) (e : ℕ) (small : (n : ℕ) → n < 
       regroup : (E : ℕ) (a y : Difference) → Close 0 (times (whole E) (times a y)) (times (times (whole E) a) y)
       regroup E a y = record { most = omega arith; least = omega arith }
 
-      word : (m : ℕ) → m < 128 → Close (2 ^ e) (times (whole (2 ^ e)) (Y m)) (times (whole (2 ^ 53)) (unitsOf (at xs m)))
-      word m l = rw (loaded m l) (loaded-near (at xs m) e (small m l))
-
-      term : (m : ℕ) → m < 128 → Close (unit * 2 ^ e) (times (whole (2 ^ e)) (times (Y (0 + m * 1)) (w (k * (m * 1))))) (times (whole (2 ^ 53)) (times (unitsOf (at xs m)) (w (k * m))))
+      term : (m : ℕ) → m < 128 → Close (unit * E) (times (whole E) (times (Y (0 + m * 1)) (w (k * (m * 1))))) (times (whole (2 ^ 53)) (times (vs m) (w (k * m))))
       term m l =
           rw (place m, mul-one m)
-          (close-weaken (small-term (length (w (k * m))) unit (2 ^ e) (short (k * m)))
-          (close-trans (regroup (2 ^ e) (Y m) (w (k * m))) (close-trans (close-by (w (k * m)) (word m l)) (close-sym (regroup (2 ^ 53) (unitsOf (at xs m)) (w (k * m)))))))
+          (close-weaken (small-term (length (w (k * m))) unit E (short (k * m)))
+          (close-trans (regroup E (Y m) (w (k * m))) (close-trans (close-by (w (k * m)) (word m l)) (close-sym (regroup (2 ^ 53) (vs m) (w (k * m)))))))
         where
           small-term : (a b E : ℕ) → a ≤ b → 0 + (a * E + 0) ≤ b * E
           small-term a b E h = omega (arith, mul-le-mul-right E h)
 
   -- the table against cosines or sines
-  module _ (u l : ℕ) (covers : Covers l xs) (w : ℕ → Difference) (t : ℕ → Difference) (near : (j : ℕ) → j < 128 → Close (8 * u) (times (whole u) (w j)) (times (whole unit) (t j))) where
-    pub table-near : (k : ℕ) → Close (128 * (l * (8 * u))) (times (whole u) (total (λ n. times (unitsOf (at xs n)) (w (k * n % 128))) 128)) (times (whole unit) (turnedSum xs t k))
-    unfolding turnedSum
+  module _ (u l : ℕ) (covers : (n : ℕ) → n < 128 → length (vs n) ≤ l) (w : ℕ → Difference) (t : ℕ → Difference) (near : (j : ℕ) → j < 128 → Close (8 * u) (times (whole u) (w j)) (times (whole unit) (t j))) where
+    pub table-near : (k : ℕ) → Close (128 * (l * (8 * u))) (times (whole u) (total (λ n. times (vs n) (w (k * n % 128))) 128)) (times (whole unit) (turnedTotal vs t k))
+    unfolding turnedTotal
     table-near k =
         close-weaken (omega arith)
-        (close-trans (total-times (whole u) (λ n. times (unitsOf (at xs n)) (w (k * n % 128))) 128)
-        (close-trans (total-close (l * (8 * u)) (λ n. times (whole u) (times (unitsOf (at xs n)) (w (k * n % 128)))) (λ n. times (whole unit) (times (unitsOf (at xs n)) (t (k * n % 128)))) 128 term)
-        (close-sym (total-times (whole unit) (λ n. times (unitsOf (at xs n)) (t (k * n % 128))) 128))))
+        (close-trans (total-times (whole u) (λ n. times (vs n) (w (k * n % 128))) 128)
+        (close-trans (total-close (l * (8 * u)) (λ n. times (whole u) (times (vs n) (w (k * n % 128)))) (λ n. times (whole unit) (times (vs n) (t (k * n % 128)))) 128 term)
+        (close-sym (total-times (whole unit) (λ n. times (vs n) (t (k * n % 128))) 128))))
       where
-        term : (n : ℕ) → n < 128 → Close (l * (8 * u)) (times (whole u) (times (unitsOf (at xs n)) (w (k * n % 128)))) (times (whole unit) (times (unitsOf (at xs n)) (t (k * n % 128))))
+        term : (n : ℕ) → n < 128 → Close (l * (8 * u)) (times (whole u) (times (vs n) (w (k * n % 128)))) (times (whole unit) (times (vs n) (t (k * n % 128))))
         term n h =
-            close-weaken (few (P (at xs n) + N (at xs n)) (8 * u) (le-trans (le-of-eq (size-sum (at xs n))) (covers n h)))
-            (close-trans (swapped (whole u) (unitsOf (at xs n)) (w (k * n % 128)))
-            (close-trans (close-times (unitsOf (at xs n)) (near (k * n % 128) (omega arith))) (swapped (unitsOf (at xs n)) (whole unit) (t (k * n % 128)))))
+            close-weaken (few (length (vs n)) (8 * u) (covers n h))
+            (close-trans (swapped (whole u) (vs n) (w (k * n % 128)))
+            (close-trans (close-times (vs n) (near (k * n % 128) (omega arith))) (swapped (vs n) (whole unit) (t (k * n % 128)))))
           where
             few : (a b : ℕ) → a ≤ l → 0 + (a * b + 0) ≤ l * b
             few a b g = omega (arith, mul-le-mul-right b g)
 
-  -- all together: the value v of a word against an exact sum X, in units of 2 ^ -53 of a float's
-  module _ (c s : ℕ → Difference) (u l : ℕ) (turns : Turns c s u) (covers : Covers l xs) where
-    lost : ℕ
-    lost = 590 * (2 ^ e * u) + 4 * (l * u)
-
+  -- all together: the value v of a word against an exact sum X, in units of 2 ^ -53 of E
+  module _ (c s : ℕ → Difference) (u l : ℕ) (turns : Turns c s u) (covers : (n : ℕ) → n < 128 → length (vs n) ≤ l) where
     room : (E u l : ℕ) → E * (u * (462 * 2 ^ 61)) + u * (128 * (2 ^ 61 * E)) + 2 ^ 53 * (128 * (l * (8 * u))) ≤ 2 ^ 61 * (590 * (E * u) + 4 * (l * u))
     room E u l = omega arith
 
-    pub real-sum : (k : ℕ) (v : Difference) → Close (462 * unit) (times (whole unit) v) (plain Y cosine 0 1 k 128) → Close (590 * (2 ^ e * u) + 4 * (l * u)) (times (whole (2 ^ e)) (times (whole u) v)) (times (whole (2 ^ 53)) (turnedSum xs c k))
-    real-sum k v h = chain (2 ^ e) u unit (2 ^ 53) (462 * unit) (128 * (unit * 2 ^ e)) (128 * (l * (8 * u))) (590 * (2 ^ e * u) + 4 * (l * u)) v (plain Y cosine 0 1 k 128) (total (λ n. times (unitsOf (at xs n)) (cosine (k * n))) 128) (turnedSum xs c k) (pow-pos 61) (room (2 ^ e) u l) h (plain-near cosine cosine-length k) (table-near u l covers cosineBelow′ c (table-cosine c s u turns) k)
-      where
-        cosineBelow′ : ℕ → Difference
-        cosineBelow′ j = cosineBelow j
+    pub real-sum : (k : ℕ) (v : Difference) → Close (462 * unit) (times (whole unit) v) (plain Y cosine 0 1 k 128) → Close (590 * (E * u) + 4 * (l * u)) (times (whole E) (times (whole u) v)) (times (whole (2 ^ 53)) (turnedTotal vs c k))
+    real-sum k v h = chain E u unit (2 ^ 53) (462 * unit) (128 * (unit * E)) (128 * (l * (8 * u))) (590 * (E * u) + 4 * (l * u)) v (plain Y cosine 0 1 k 128) (total (λ n. times (vs n) (cosine (k * n))) 128) (turnedTotal vs c k) (pow-pos 61) (room E u l) h (plain-near cosine cosine-length k) (table-near u l covers cosineBelow c (table-cosine c s u turns) k)
 
-    pub imaginary-sum : (k : ℕ) (v : Difference) → Close (462 * unit) (times (whole unit) v) (plain Y sine 0 1 k 128) → Close (590 * (2 ^ e * u) + 4 * (l * u)) (times (whole (2 ^ e)) (times (whole u) v)) (times (whole (2 ^ 53)) (turnedSum xs s k))
-    imaginary-sum k v h = chain (2 ^ e) u unit (2 ^ 53) (462 * unit) (128 * (unit * 2 ^ e)) (128 * (l * (8 * u))) (590 * (2 ^ e * u) + 4 * (l * u)) v (plain Y sine 0 1 k 128) (total (λ n. times (unitsOf (at xs n)) (sine (k * n))) 128) (turnedSum xs s k) (pow-pos 61) (room (2 ^ e) u l) h (plain-near sine sine-length k) (table-near u l covers sineBelow s (table-sine c s u turns) k)
+    pub imaginary-sum : (k : ℕ) (v : Difference) → Close (462 * unit) (times (whole unit) v) (plain Y sine 0 1 k 128) → Close (590 * (E * u) + 4 * (l * u)) (times (whole E) (times (whole u) v)) (times (whole (2 ^ 53)) (turnedTotal vs s k))
+    imaginary-sum k v h = chain E u unit (2 ^ 53) (462 * unit) (128 * (unit * E)) (128 * (l * (8 * u))) (590 * (E * u) + 4 * (l * u)) v (plain Y sine 0 1 k 128) (total (λ n. times (vs n) (sine (k * n))) 128) (turnedTotal vs s k) (pow-pos 61) (room E u l) h (plain-near sine sine-length k) (table-near u l covers sineBelow s (table-sine c s u turns) k)
 
 -- ---- the imaginary parts that are written as zero: their sums are
 module _ (Y : ℕ → Difference) (k : ℕ) (ends : (k ≡ 0) ⊎ (k ≡ 64)) where

@@ -18,7 +18,7 @@ use Rattle.units.proofs.Patterns.{finite-below}
 use Rattle.spectrum.specs.Difference.{Difference, whole, opposite, times, total, apart, size}
 use Rattle.spectrum.specs.Table.{unit, cosineBelow, sineBelow, cosine, sine}
 use Rattle.spectrum.specs.Words.{valueOf, Small, Fillable, FilledWith}
-use Rattle.spectrum.specs.Transform.{at, Element, Elements, unitsOf, turnedSum, Turns, Covers, NearOutput, exactRe, exactIm}
+use Rattle.spectrum.specs.Transform.{at, Element, Elements, unitsOf, turnedTotal, turnedSum, Turns, Covers, NearOutput, exactRe, exactIm}
 use Rattle.spectrum.specs.Floats.{digitsIn, placeIn, sizeIn, sizeBits, Largest, Scale, wordOf, Loaded, Holdable, bitsOf, StoredReal, StoredImaginary}
 use Rattle.spectrum.proofs.Differences as D
 use Rattle.spectrum.proofs.Differences.{Close, total-same, total-length}
@@ -30,7 +30,7 @@ use Rattle.spectrum.proofs.Blocks.{within}
 use Rattle.spectrum.proofs.Sizes.{size-of, size-mono}
 use Rattle.spectrum.proofs.Loads.{quotient-small}
 use Rattle.spectrum.proofs.Cosines.{table-cosine, table-sine}
-use Rattle.spectrum.proofs.Exact.{real-sum, imaginary-sum, table-near, end-sum, near-output}
+use Rattle.spectrum.proofs.Exact.{loaded-near, real-sum, imaginary-sum, table-near, end-sum, near-output}
 use Rattle.spectrum.proofs.Energy.{largest-by}
 use Rattle.spectrum.proofs.Written.{Output, output, one-sided, zero-output}
 
@@ -149,6 +149,16 @@ module _ (xs : List Float) (m e : ℕ) (elements : (n : ℕ) → n < 128 → Ele
     word : (i : ℕ) → i < 128 → getD ys i unit ≡ wordOf e (at xs i)
     word i l = within ys i unit 0 (omega (arith, loaded .as-many)) ∙ loaded .each i l
 
+    -- the values, and the words as these within a unit
+    abbrev vs : ℕ → Difference
+    vs n = unitsOf (at xs n)
+
+    near-words : (n : ℕ) → n < 128 → Close (2 ^ e) (times (whole (2 ^ e)) (valueOf (getD ys n unit))) (times (whole (2 ^ 53)) (vs n))
+    near-words n l = rw (word n l) (loaded-near (at xs n) e (size-below n l))
+
+    lengths-by : (l : ℕ) → Covers l xs → (n : ℕ) → n < 128 → D.length (vs n) ≤ l
+    lengths-by l covers n h = le-trans (le-of-eq (size-sum (at xs n))) (covers n h)
+
     -- every word, and none beyond the end
     lengths : (a : ℕ) → ((i : ℕ) → i < 128 → D.length (valueOf (wordOf e (at xs i))) ≤ a) → (i : ℕ) → D.length (valueOf (getD ys i unit)) ≤ a
     lengths a h i = elim (le-or-lt 128 i) [
@@ -183,7 +193,7 @@ module _ (xs : List Float) (m e : ℕ) (elements : (n : ℕ) → n < 128 → Ele
     silent-plain z w k = total-length 0 (λ i. times (valueOf (getD ys (0 + i * 1) unit)) (w (k * (i * 1)))) 128 (λ i l. nothing _ (w (k * (i * 1))) (silent-words z (0 + i * 1)))
 
     silent-sum : m ≡ 0 → (t : ℕ → Difference) (k : ℕ) → D.length (turnedSum xs t k) ≤ 0
-    unfolding turnedSum
+    unfolding turnedTotal
     silent-sum z t k = total-length 0 (λ n. times (unitsOf (at xs n)) (t (k * n % 128))) 128 (λ n l. nothing (unitsOf (at xs n)) (t (k * n % 128)) (le-of-eq (size-sum (at xs n) ∙ silent z n l)))
 
     module _ (c s : ℕ → Difference) (u l : ℕ) (turns : Turns c s u) (covers : Covers l xs) where
@@ -235,7 +245,7 @@ module _ (xs : List Float) (m e : ℕ) (elements : (n : ℕ) → n < 128 → Ele
       real-near k b =
           let h = holdable k (omega arith) in
           any-near (valueOf (getD r k 0)) (turnedSum xs c k) (plain (λ i. valueOf (getD ys i unit)) cosine 0 1 k 128) _ (one-sided e (getD r k 0) (scale .high) h) (output e (getD r k 0) (scale .high) h) (block .re k (omega arith)) (λ z. silent-plain z cosine k) (λ z. silent-sum z c k)
-          (real-sum xs ys e size-below word c s u l turns covers k (valueOf (getD r k 0)) (block .re k (omega arith)))
+          (real-sum vs ys (2 ^ e) near-words c s u l turns (lengths-by l covers) k (valueOf (getD r k 0)) (block .re k (omega arith)))
 
       turned : (E u B K : ℕ) (v S : Difference) → Close K (times (whole E) (times (whole u) (opposite v))) (times (whole B) S) → Close K (times (whole E) (times (whole u) v)) (times (whole B) (opposite S))
       turned E u B K v S h = record { most = omega (arith, h .least); least = omega (arith, h .most) }
@@ -245,7 +255,7 @@ module _ (xs : List Float) (m e : ℕ) (elements : (n : ℕ) → n < 128 → Ele
           let v = getD r (128 - k) 0 in
           let h = holdable (128 - k) (omega arith) in
           any-near (valueOf v) (opposite (turnedSum xs s k)) (opposite (plain (λ i. valueOf (getD ys i unit)) sine 0 1 k 128)) _ (one-sided e v (scale .high) h) (output e v (scale .high) h) (opposed′ (block .im k a (omega arith))) (λ z. flip (plain (λ i. valueOf (getD ys i unit)) sine 0 1 k 128) (silent-plain z sine k)) (λ z. flip (turnedSum xs s k) (silent-sum z s k))
-          (turned (2 ^ e) u (2 ^ 53) lost (valueOf v) (turnedSum xs s k) (imaginary-sum xs ys e size-below word c s u l turns covers k (opposite (valueOf v)) (block .im k a (omega arith))))
+          (turned (2 ^ e) u (2 ^ 53) lost (valueOf v) (turnedSum xs s k) (imaginary-sum vs ys (2 ^ e) near-words c s u l turns (lengths-by l covers) k (opposite (valueOf v)) (block .im k a (omega arith))))
         where
           flip : (d : Difference) → D.length d ≤ 0 → D.length (opposite d) ≤ 0
           flip d h = omega arith
@@ -257,7 +267,7 @@ module _ (xs : List Float) (m e : ℕ) (elements : (n : ℕ) → n < 128 → Ele
       end-near k ends =
           let h = end-sum (λ i. valueOf (getD ys i unit)) k ends in
           any-near (whole 0) (opposite (turnedSum xs s k)) (plain (λ i. valueOf (getD ys i unit)) sine 0 1 k 128) 0 (inl refl) (zero-output (2 ^ e)) h (λ z. silent-plain z sine k) (λ z. flip (turnedSum xs s k) (silent-sum z s k))
-          (turned (2 ^ e) u (2 ^ 53) lost (whole 0) (turnedSum xs s k) (imaginary-sum xs ys e size-below word c s u l turns covers k (opposite (whole 0)) h))
+          (turned (2 ^ e) u (2 ^ 53) lost (whole 0) (turnedSum xs s k) (imaginary-sum vs ys (2 ^ e) near-words c s u l turns (lengths-by l covers) k (opposite (whole 0)) h))
         where
           flip : (d : Difference) → D.length d ≤ 0 → D.length (opposite d) ≤ 0
           flip d h = omega arith
@@ -293,8 +303,8 @@ module _ (xs : List Float) (m e : ℕ) (elements : (n : ℕ) → n < 128 → Ele
           loud some =
               let (i, b, e) = largest .there some in
               largest-by (λ i. unitsOf (at xs i)) (turnedSum xs c) (turnedSum xs s) u M i b all-covered (size-sum (at xs i) ∙ size-of (at xs i) (elements i b .number) ∙ ap sizeIn e) (one-sided′ (at xs i))
-              (λ k l. subst (λ (d : Difference). Close (128 * (M * (8 * u))) (times (whole u) d) (times (whole unit) (turnedSum xs c k))) (sym (plainly cosine k)) (table-near xs ys e′ size-below word u M covered cosineBelow c (table-cosine c s u turns) k))
-              (λ k l. subst (λ (d : Difference). Close (128 * (M * (8 * u))) (times (whole u) d) (times (whole unit) (turnedSum xs s k))) (sym (plainly sine k)) (table-near xs ys e′ size-below word u M covered sineBelow s (table-sine c s u turns) k))
+              (λ k l. subst (λ (d : Difference). Close (128 * (M * (8 * u))) (times (whole u) d) (times (whole unit) (turnedSum xs c k))) (sym (plainly cosine k)) (table-near vs ys (2 ^ e′) near-words u M (lengths-by M covered) cosineBelow c (table-cosine c s u turns) k))
+              (λ k l. subst (λ (d : Difference). Close (128 * (M * (8 * u))) (times (whole u) d) (times (whole unit) (turnedSum xs s k))) (sym (plainly sine k)) (table-near vs ys (2 ^ e′) near-words u M (lengths-by M covered) sineBelow s (table-sine c s u turns) k))
               q sr (λ k l. le-trans (le-of-eq (turned-size (turnedSum xs s k))) (si k l))
             where
               e′ : ℕ

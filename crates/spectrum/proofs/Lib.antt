@@ -21,3 +21,4 @@ pub mod Written
 pub mod Energy
 pub mod Frame
 pub mod Promise
+pub mod Unique

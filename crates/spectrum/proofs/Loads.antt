@@ -1,13 +1,14 @@
 -- A float as a word, and the largest pattern of a frame.
 use mathlib.Core.Path.{_≡_, refl, sym, ap, _∙_, subst}
 use mathlib.Core.Logic.{inl, inr, _⊎_}
-use mathlib.Core.Bool.{Bool, true, false, cond}
+use mathlib.Core.Bool.{Bool, true, false, cond, not}
 use mathlib.Core.List.{List}
 use Prim.Native.Nat.{ℕ, _+_, _-_, _*_, _/_, _%_, _^_, _≤_, _<_}
 use native.Mathlib.Nat.{le-trans, le-of-eq, lt-of-le-of-lt, eq-or-lt-of-le, mul-comm, mul-le-mul-right, mul-lt-mul-of-pos-right, lt-of-lt-of-le, div-lt-iff-lt-mul}
 use native.Mathlib.Omega.{arith}
 use lib.Pow.{pow-add, pow-pos}
-use lib.Ieee.{Float, binary32, toBits}
+use lib.Dec.{T}
+use lib.Ieee.{Float, nan, inf, fin, binary32, toBits, isNan}
 use Rattle.units.specs.Units.{mag, negative, Number}
 use Rattle.units.proofs.Naturals.{pow-back-lt}
 use Rattle.units.proofs.Patterns.{packed-of}
@@ -15,6 +16,13 @@ use Rattle.spectrum.specs.Table.{unit}
 use Rattle.spectrum.specs.Transform.{at}
 use Rattle.spectrum.specs.Floats.{placeIn, sizeIn, sizeBits, Largest, wordOf}
 use Rattle.spectrum.proofs.Sizes.{high-digits}
+
+-- ---- a number is no NaN
+pub no-nan : (x : Float) → Number x → T (not (isNan x))
+unfolding isNan
+no-nan nan n = n .is-finite
+no-nan (inf s) n = tt
+no-nan (fin s m e) n = tt
 
 -- ---- the word
 pub quotient-small : (m e : ℕ) → m < 2 ^ e → m * 2 ^ 53 / 2 ^ e < 2 ^ 53

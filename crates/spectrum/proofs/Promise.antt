@@ -13,7 +13,7 @@ use Rattle.units.proofs.Answers.{written, untouched}
 use Rattle.spectrum.specs.Difference.{Difference, whole, size}
 use Rattle.spectrum.specs.Words.{valueOf, FilledWith}
 use Rattle.spectrum.specs.Transform.{at, Lengths, Element, Elements, Accepts, Turns, Covers, NearOutput, exactRe, exactIm, errorOf, sumOf, square, Transform, bothBits}
-use Rattle.spectrum.specs.Floats.{sizeIn, sizeBits, Largest, Scale, Loaded, bitsOf, StoredReal, StoredImaginary}
+use Rattle.spectrum.specs.Floats.{sizeIn, sizeBits, Largest, Scale, Loaded, bitsOf, StoredReal, StoredImaginary, IsTransform}
 use Rattle.spectrum.proofs.Written.{Output, output, zero-output}
 use Rattle.spectrum.proofs.Energy.{energy}
 use Rattle.spectrum.proofs.Frame.{holdable, covered, largest-output, real-near, imaginary-near, end-near, element-below}
@@ -48,6 +48,7 @@ module _ (xs : List Float) (nre nim : ℕ) {before : List ℕ × List ℕ} where
     as-many = λ a. absurd (wrong (a .lengths));
     finite = λ a. absurd (wrong (a .lengths));
     zero-plus = λ a. absurd (wrong (a .lengths));
+    alone = λ a. absurd (wrong (a .lengths));
     near = λ a. absurd (wrong (a .lengths));
     energy = λ a. absurd (wrong (a .lengths));
   })
@@ -60,6 +61,7 @@ module _ (xs : List Float) (nre nim : ℕ) {before : List ℕ × List ℕ} where
     as-many = λ a. absurd (wrong (a .elements));
     finite = λ a. absurd (wrong (a .elements));
     zero-plus = λ a. absurd (wrong (a .elements));
+    alone = λ a. absurd (wrong (a .elements));
     near = λ a. absurd (wrong (a .elements));
     energy = λ a. absurd (wrong (a .elements));
   })
@@ -139,6 +141,16 @@ module _ (xs : List Float) (nre nim m e : ℕ) (accepts : Accepts xs nre nim) (l
       energy (λ k. exactRe xs c k) (λ k. exactIm xs s k) (λ k. errorOf (at (floats re) k) (exactRe xs c k) u) (λ k. errorOf (at (floats im) k) (exactIm xs s k) u) u (sizeIn m)
       (largest-output xs m e elements largest scale ys r loaded count fills (accepts .lengths .values) c s u turns) (λ k l. re-near c s u (sizeIn m) turns covers k l .holds) (λ k l. im-near c s u (sizeIn m) turns covers k l .holds)
 
+  -- the patterns, back from their floats
+  re-back : listBits (floats re) ≡ re
+  re-back = bits-back re (λ k l. real-written k (omega (arith, real .as-many)) .is .back)
+
+  im-back : listBits (floats im) ≡ im
+  im-back = bits-back im (λ k l. imaginary-written k (omega (arith, imaginary .as-many)) .is .back)
+
+  made : IsTransform xs (listBits (floats re)) (listBits (floats im))
+  made = subst (λ (a : List ℕ). IsTransform xs a (listBits (floats im))) (sym re-back) (subst (IsTransform xs re) (sym im-back) (record { m = m; e = e; ys = ys; r = r; largest = largest; scale = scale; loaded = loaded; count = count; fills = fills; real = real; imaginary = imaginary }))
+
   kept : Transform xs nre nim 0 (floats re, floats im)
   kept = record {
     bad-length = λ h. absurd (h (accepts .lengths));
@@ -147,9 +159,10 @@ module _ (xs : List Float) (nre nim m e : ℕ) (accepts : Accepts xs nre nim) (l
     as-many = λ a. (floats-length re ∙ real .as-many, floats-length im ∙ imaginary .as-many);
     finite = λ a. numbers;
     zero-plus = λ a. zeros;
+    alone = λ a. made;
     near = λ a c s u l turns covers k few. (re-near c s u l turns covers k few, im-near c s u l turns covers k few);
     energy = λ a. summed;
   }
 
   pub promised : {before : List ℕ × List ℕ} → Ends bothBits (Transform xs nre nim) 0 before (re, im)
-  promised = written (floats re, floats im) kept (ap₂ (λ a b. (a, b)) (sym (bits-back re (λ k l. real-written k (omega (arith, real .as-many)) .is .back))) (sym (bits-back im (λ k l. imaginary-written k (omega (arith, imaginary .as-many)) .is .back))))
+  promised = written (floats re, floats im) kept (ap₂ (λ a b. (a, b)) (sym re-back) (sym im-back))

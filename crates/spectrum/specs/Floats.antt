@@ -9,7 +9,8 @@ use lib.ListN.{length, getD}
 use lib.Ieee.{Float, binary32, toBits}
 use Rattle.units.specs.Units.{mag, negative, Number}
 use Rattle.fixed.specs.Rounded.{nearestBits}
-use Rattle.spectrum.specs.Transform.{at}
+use Rattle.spectrum.specs.Elements.{at}
+use Rattle.spectrum.specs.Words.{FilledWith}
 use Rattle.spectrum.specs.Table.{unit}
 
 -- the size that a pattern without a sign stands for: its digits and their place
@@ -75,3 +76,17 @@ pub record StoredImaginary (e : ℕ) (r im : List ℕ) : Type 0 where
   pub each : (k : ℕ) → 1 ≤ k → k < 64 → getD im k 0 ≡ bitsOf e (getD r (128 - k) 0)
   pub first : getD im 0 0 ≡ 0
   pub last : getD im 64 0 ≡ 0
+
+-- the outputs re and im are what a frame alone makes them: of two such pairs each is the other (proofs/Unique)
+pub record IsTransform (xs : List Float) (re im : List ℕ) : Type 0 where
+  pub m : ℕ
+  pub e : ℕ
+  pub ys : List ℕ
+  pub r : List ℕ
+  pub largest : Largest xs 128 m
+  pub scale : Scale m e
+  pub loaded : Loaded e xs ys
+  pub count : length r ≡ 128
+  pub fills : FilledWith ys 0 1 r
+  pub real : StoredReal e r re
+  pub imaginary : StoredImaginary e r im

@@ -1,4 +1,5 @@
 pub mod Difference
+pub mod Elements
 pub mod Table
 pub mod Words
 pub mod Transform

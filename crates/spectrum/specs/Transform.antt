@@ -2,16 +2,14 @@
 use mathlib.Core.Path.{_≡_}
 use mathlib.Core.List.{List}
 use Prim.Native.Nat.{ℕ, zero, suc, _+_, _*_, _%_, _^_, _≤_, _<_}
-use lib.ListN.{length, getD}
-use lib.Ieee.{Float, nan}
+use lib.ListN.{length}
+use lib.Ieee.{Float}
 use Rattle.units.specs.Units.{mag, P, N, Number}
 use Rattle.units.specs.Answers.{floatBits, listBits}
 use Rattle.exact.specs.Circle.{Cosine, Sine, QuarterTurn, signed, bound}
 use Rattle.spectrum.specs.Difference.{Difference, opposite, times, total, apart, size}
-
--- the element i of a list
-abbrev pub at : List Float → ℕ → Float
-at xs i = getD xs i nan
+use Rattle.spectrum.specs.Floats.{IsTransform}
+pub use Rattle.spectrum.specs.Elements.{at}
 
 -- ---- accepted lists
 -- 128 values, and room for 65 outputs twice
@@ -52,9 +50,13 @@ pub record Turns (c s : ℕ → Difference) (u : ℕ) : Type 0 where
 abbrev pub unitsOf : Float → Difference
 unitsOf x = record { plus = P x; minus = N x }
 
--- the sum over n of x_n t_(k n), t a table of cosines or of sines: it comes round after 128
-unfoldable pub turnedSum : List Float → (ℕ → Difference) → ℕ → Difference
-turnedSum xs t k = total (λ n. times (unitsOf (at xs n)) (t (k * n % 128))) 128
+-- the sum over n of v_n t_(k n), t a table of cosines or of sines: it comes round after 128
+unfoldable pub turnedTotal : (ℕ → Difference) → (ℕ → Difference) → ℕ → Difference
+turnedTotal v t k = total (λ n. times (v n) (t (k * n % 128))) 128
+
+-- the same of the values x_n
+abbrev pub turnedSum : List Float → (ℕ → Difference) → ℕ → Difference
+turnedSum xs t k = turnedTotal (λ n. unitsOf (at xs n)) t k
 
 -- the real and the imaginary part of X_k, times u
 abbrev pub exactRe : List Float → (ℕ → Difference) → ℕ → Difference
@@ -101,6 +103,8 @@ pub record Transform (xs : List Float) (nre nim : ℕ) (code : ℕ) (r : List Fl
   -- each a finite float, and no zero of them is -0
   pub finite : Accepts xs nre nim → (k : ℕ) → k ≤ 64 → Number (at (r .0) k) × Number (at (r .1) k)
   pub zero-plus : Accepts xs nre nim → (k : ℕ) → k ≤ 64 → (mag (at (r .0) k) ≡ 0 → floatBits (at (r .0) k) ≡ 0) × (mag (at (r .1) k) ≡ 0 → floatBits (at (r .1) k) ≡ 0)
+  -- what the frame alone makes them, so that equal frames give equal outputs: of two such results each is the other (proofs/Unique)
+  pub alone : Accepts xs nre nim → IsTransform xs (listBits (r .0)) (listBits (r .1))
   -- each within 2 ^ -24 of its own size, 2 ^ -42 of the largest |x_n| and 2 ^ -150 of the exact sum
   pub near : Accepts xs nre nim → (c s : ℕ → Difference) (u l : ℕ) → Turns c s u → Covers l xs → (k : ℕ) → k ≤ 64 → NearOutput (at (r .0) k) (exactRe xs c k) u l × NearOutput (at (r .1) k) (exactIm xs s k) u l
   -- the sum of all squared errors is at most (10 ^ -7) ^ 2 of the sum of the exact outputs' squares, and (2 ^ -146) ^ 2, or 64 squared units

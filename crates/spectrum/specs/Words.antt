@@ -15,6 +15,10 @@ pub record Inside (v : ℕ) : Type 0 where
   pub least : unit ≤ v + (2 ^ 59 + 2 ^ 10)
   pub most : v ≤ unit + (2 ^ 59 + 2 ^ 10)
 
+-- 8 times the cosine and the sine of j / 128 turns
+unfoldable pub turnOf : ℕ → List ℕ
+turnOf j = (8 * entry j) ∷ (8 * entry (32 - j)) ∷ []
+
 -- the row of j / 128 turns: 8 times its cosine and its sine, and what takes the offsets out of the two parts of a product
 unfoldable pub rowOf : ℕ → List ℕ
 rowOf j = (8 * entry j) ∷ (8 * entry (32 - j)) ∷ (2 * unit - (entry j + entry (32 - j))) ∷ (2 * unit + entry (32 - j) - entry j) ∷ []

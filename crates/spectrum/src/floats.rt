@@ -4,6 +4,7 @@
 ghost use mathlib.Core.Path.{_≡_};
 ghost use Prim.Native.Nat.{ℕ, _+_, _-_, _*_, _/_, _^_, _<_, _≤_};
 ghost use lib.ListN.{length, getD};
+ghost use lib.Ieee.{binary32, toBits};
 ghost use Rattle.units.specs.Units.{mag, Number};
 ghost use Rattle.spectrum.specs.Transform.{at};
 ghost use Rattle.spectrum.specs.Floats.{sizeIn, Largest, Scale, wordOf, Loaded, Holdable, sizeBitsOf, bitsOf, StoredReal, StoredImaginary};
@@ -64,12 +65,20 @@ fn shifted(m: u32, k: u32, e: u32) -> u64
     0
 }
 
+// The pattern of a number: no NaN, so that nothing has to be asked.
+pub fn number_bits(x: f32) -> u32
+    requires { ⌜ Number x ⌝ }
+    ensures { λ r. ⌜ r ≡ toBits binary32 x ⌝ }
+{
+    f32::to_bits(x)
+}
+
 // A float as a word.
 fn load(x: f32, e: u32) -> u64
     requires { ⌜ Number x × (mag x < 2 ^ e) × (e ≤ 269) ⌝ }
     ensures { λ v. ⌜ v ≡ wordOf e x ⌝ }
 {
-    let b = fixed::bits_of(x);
+    let b = number_bits(x);
     let y = scaled(b % 2147483648, e);
     if b < 2147483648 { UNIT + y } else { UNIT - y }
 }

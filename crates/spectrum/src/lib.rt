@@ -1,8 +1,8 @@
 // The transform of 128 floats: whole numbers inside, one rounding for each output.
 
-mod floats;
+pub mod floats;
 mod turns;
-mod words;
+pub mod words;
 
 ghost use mathlib.Core.Path.{_≡_};
 ghost use lib.ListN.{length};
@@ -27,9 +27,11 @@ pub fn transform(x: &[f32], re: &mut [u32], im: &mut [u32]) -> u32
         return 1;
     }
     let e = floats::scale(m);
-    let mut y = [0u64; 128];
+    // two lists of words; filled with zeros they would be a call of memset, which the chip's archive must not have
+    let any = e as u64;
+    let mut y = [any; 128];
     floats::load_all(x, e, &mut y);
-    let mut r = [0u64; 128];
+    let mut r = [any; 128];
     words::fill(&y, 0, 1, &mut r);
     floats::store_real(&r, e, re);
     floats::store_imaginary(&r, e, im);

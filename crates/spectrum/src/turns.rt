@@ -1,9 +1,9 @@
-// The rows of the butterflies. tools/turns.py finds them. What is proved of them are tests over all rows, in proofs/Turning.antt and proofs/Cosines.antt.
+// The turns of the butterflies. tools/turns.py finds them. What is proved of them are tests over all rows, in proofs/Turning.antt and proofs/Cosines.antt.
 
 ghost use mathlib.Core.Path.{_≡_};
-ghost use Prim.Native.Nat.{_<_, _≤_};
+ghost use Prim.Native.Nat.{_+_, _*_, _<_, _≤_};
 ghost use mathlib.Core.List.{[], _∷_};
-ghost use Rattle.spectrum.specs.Words.{rowOf};
+ghost use Rattle.spectrum.specs.Words.{rowOf, turnOf};
 
 // 8 times the cosine and the sine of j / 128 turns, in units of 2^-61; z = 2^62 - (c + s) / 8 and y = 2^62 + (s - c) / 8.
 pub struct Turn {
@@ -13,197 +13,230 @@ pub struct Turn {
     pub y: u64,
 }
 
+const TWICE: u64 = 0x4000_0000_0000_0000;
+
+// The cosine and the sine in words of 32 digits: for words of 64 a chip of 32 bits gets no table, but code for each row.
+struct Digits {
+    ch: u32,
+    cl: u32,
+    sh: u32,
+    sl: u32,
+}
+
 // The row j.
-pub fn row(j: usize) -> Turn
+pub fn row(j: u32) -> Turn
     requires { ⌜ (1 ≤ j) × (j < 32) ⌝ }
     ensures { λ t. ⌜ (t .c ∷ t .s ∷ t .z ∷ t .y ∷ []) ≡ rowOf j ⌝ }
 {
+    let h = halves(j);
+    let c = whole(h.ch, h.cl);
+    let s = whole(h.sh, h.sl);
+    Turn {
+        c: c,
+        s: s,
+        z: TWICE - (c / 8 + s / 8),
+        y: TWICE + s / 8 - c / 8,
+    }
+}
+
+// Two words of 32 digits as one of 64.
+fn whole(h: u32, l: u32) -> u64
+    ensures { λ r. ⌜ r ≡ h * 4294967296 + l ⌝ }
+{
+    (h as u64) * 4294967296 + (l as u64)
+}
+
+// The cosine and the sine of the row j.
+fn halves(j: u32) -> Digits
+    requires { ⌜ (1 ≤ j) × (j < 32) ⌝ }
+    ensures { λ t. ⌜ ((t .ch * 4294967296 + t .cl) ∷ (t .sh * 4294967296 + t .sl) ∷ []) ≡ turnOf j ⌝ }
+{
     match j {
-        1 => Turn {
-            c: 0xffb10f1bcb6bef20,
-            s: 0xc8fb2f886ec09f0,
-            z: 0x1e77e7bd75b500de,
-            y: 0x219bd47b9770035a,
+        1 => Digits {
+            ch: 0xffb10f1b,
+            cl: 0xcb6bef20,
+            sh: 0xc8fb2f8,
+            sl: 0x86ec09f0,
         },
-        2 => Turn {
-            c: 0xfec46d1e89292cf0,
-            s: 0x1917a6bc29b42be0,
-            z: 0x1d047d84a9a454e6,
-            y: 0x234a6733b4115fde,
+        2 => Digits {
+            ch: 0xfec46d1e,
+            cl: 0x89292cf0,
+            sh: 0x1917a6bc,
+            sl: 0x29b42be0,
         },
-        3 => Turn {
-            c: 0xfd3aabf84528b508,
-            s: 0x259020dd1cc27448,
-            z: 0x1ba6a66553c29ad6,
-            y: 0x250aae9c9af337e8,
+        3 => Digits {
+            ch: 0xfd3aabf8,
+            cl: 0x4528b508,
+            sh: 0x259020dd,
+            sl: 0x1cc27448,
         },
-        4 => Turn {
-            c: 0xfb14be7fbae58158,
-            s: 0x31f17078d34c1570,
-            z: 0x1a5f3a20ee39cd27,
-            y: 0x26db963f230cd283,
+        4 => Digits {
+            ch: 0xfb14be7f,
+            cl: 0xbae58158,
+            sh: 0x31f17078,
+            sl: 0xd34c1570,
         },
-        5 => Turn {
-            c: 0xf853f7dc9186b950,
-            s: 0x3e33f2f642be3560,
-            z: 0x192f02a5a577622a,
-            y: 0x28bbff633626ef82,
+        5 => Digits {
+            ch: 0xf853f7dc,
+            cl: 0x9186b950,
+            sh: 0x3e33f2f6,
+            sl: 0x42be3560,
         },
-        6 => Turn {
-            c: 0xf4fa0ab6316ed2f0,
-            s: 0x4a5018bb567c16a0,
-            z: 0x1816bb91cf02a2ce,
-            y: 0x2aaac1c0a4a1a876,
+        6 => Digits {
+            ch: 0xf4fa0ab6,
+            cl: 0x316ed2f0,
+            sh: 0x4a5018bb,
+            sl: 0x567c16a0,
         },
-        7 => Turn {
-            c: 0xf1090827b4372600,
-            s: 0x563e69d6ac7f73f8,
-            z: 0x171711c033e92cc1,
-            y: 0x2ca6ac35df0909bf,
+        7 => Digits {
+            ch: 0xf1090827,
+            cl: 0xb4372600,
+            sh: 0x563e69d6,
+            sl: 0xac7f73f8,
         },
-        8 => Turn {
-            c: 0xec835e79946a3148,
-            s: 0x61f78a9abaa58b48,
-            z: 0x1630a2dd761e086e,
-            y: 0x2eae858424c76b40,
+        8 => Digits {
+            ch: 0xec835e79,
+            cl: 0x946a3148,
+            sh: 0x61f78a9a,
+            sl: 0xbaa58b48,
         },
-        9 => Turn {
-            c: 0xe76bd7a1e63b9788,
-            s: 0x6d744027857300b0,
-            z: 0x1563fd06d28a2cf9,
-            y: 0x30c10d10b3e6ed25,
+        9 => Digits {
+            ch: 0xe76bd7a1,
+            cl: 0xe63b9788,
+            sh: 0x6d744027,
+            sl: 0x857300b0,
         },
-        10 => Turn {
-            c: 0xe1c5978c05ed8690,
-            s: 0x78ad74e01bd8ec78,
-            z: 0x14b19e727bc7319f,
-            y: 0x32dcfbaa82bd6cbd,
+        10 => Digits {
+            ch: 0xe1c5978c,
+            cl: 0x5ed8690,
+            sh: 0x78ad74e0,
+            sl: 0x1bd8ec78,
         },
-        11 => Turn {
-            c: 0xdb941a28cb71ec88,
-            s: 0x839c3cc917ff6cb8,
-            z: 0x1419f521c391d4d8,
-            y: 0x350104540991b006,
+        11 => Digits {
+            ch: 0xdb941a28,
+            cl: 0xcb71ec88,
+            sh: 0x839c3cc9,
+            sl: 0x17ff6cb8,
         },
-        12 => Turn {
-            c: 0xd4db3148750d1818,
-            s: 0x8e39d9cd73464368,
-            z: 0x139d5e9d42f59490,
-            y: 0x372bd5109fc7256a,
+        12 => Digits {
+            ch: 0xd4db3148,
+            cl: 0x750d1818,
+            sh: 0x8e39d9cd,
+            sl: 0x73464368,
         },
-        13 => Turn {
-            c: 0xcd9f023f9c3a05a0,
-            s: 0x987fbfe70b81a708,
-            z: 0x133c27bb2b088a6b,
-            y: 0x395c17b4ede8f42d,
+        13 => Digits {
+            ch: 0xcd9f023f,
+            cl: 0x9c3a05a0,
+            sh: 0x987fbfe7,
+            sl: 0xb81a708,
         },
-        14 => Turn {
-            c: 0xc5e40358a8ba05a8,
-            s: 0xa267992848eeb0c0,
-            z: 0x12f68c6fe1cae933,
-            y: 0x3b9072b9f4069563,
+        14 => Digits {
+            ch: 0xc5e40358,
+            cl: 0xa8ba05a8,
+            sh: 0xa2679928,
+            sl: 0x48eeb0c0,
         },
-        15 => Turn {
-            c: 0xbdaef913557d76f0,
-            s: 0xabeb49a46764fd18,
-            z: 0x12ccb7a90863b17f,
-            y: 0x3dc78a12223cf0c5,
+        15 => Digits {
+            ch: 0xbdaef913,
+            cl: 0x557d76f0,
+            sh: 0xabeb49a4,
+            sl: 0x6764fd18,
         },
-        16 => Turn {
-            c: 0xb504f333f9de6488,
-            s: 0xb504f333f9de6488,
-            z: 0x12bec333018866de,
-            y: 0x4000000000000000,
+        16 => Digits {
+            ch: 0xb504f333,
+            cl: 0xf9de6488,
+            sh: 0xb504f333,
+            sl: 0xf9de6488,
         },
-        17 => Turn {
-            c: 0xabeb49a46764fd18,
-            s: 0xbdaef913557d76f0,
-            z: 0x12ccb7a90863b17f,
-            y: 0x423875edddc30f3b,
+        17 => Digits {
+            ch: 0xabeb49a4,
+            cl: 0x6764fd18,
+            sh: 0xbdaef913,
+            sl: 0x557d76f0,
         },
-        18 => Turn {
-            c: 0xa267992848eeb0c0,
-            s: 0xc5e40358a8ba05a8,
-            z: 0x12f68c6fe1cae933,
-            y: 0x446f8d460bf96a9d,
+        18 => Digits {
+            ch: 0xa2679928,
+            cl: 0x48eeb0c0,
+            sh: 0xc5e40358,
+            sl: 0xa8ba05a8,
         },
-        19 => Turn {
-            c: 0x987fbfe70b81a708,
-            s: 0xcd9f023f9c3a05a0,
-            z: 0x133c27bb2b088a6b,
-            y: 0x46a3e84b12170bd3,
+        19 => Digits {
+            ch: 0x987fbfe7,
+            cl: 0xb81a708,
+            sh: 0xcd9f023f,
+            sl: 0x9c3a05a0,
         },
-        20 => Turn {
-            c: 0x8e39d9cd73464368,
-            s: 0xd4db3148750d1818,
-            z: 0x139d5e9d42f59490,
-            y: 0x48d42aef6038da96,
+        20 => Digits {
+            ch: 0x8e39d9cd,
+            cl: 0x73464368,
+            sh: 0xd4db3148,
+            sl: 0x750d1818,
         },
-        21 => Turn {
-            c: 0x839c3cc917ff6cb8,
-            s: 0xdb941a28cb71ec88,
-            z: 0x1419f521c391d4d8,
-            y: 0x4afefbabf66e4ffa,
+        21 => Digits {
+            ch: 0x839c3cc9,
+            cl: 0x17ff6cb8,
+            sh: 0xdb941a28,
+            sl: 0xcb71ec88,
         },
-        22 => Turn {
-            c: 0x78ad74e01bd8ec78,
-            s: 0xe1c5978c05ed8690,
-            z: 0x14b19e727bc7319f,
-            y: 0x4d2304557d429343,
+        22 => Digits {
+            ch: 0x78ad74e0,
+            cl: 0x1bd8ec78,
+            sh: 0xe1c5978c,
+            sl: 0x5ed8690,
         },
-        23 => Turn {
-            c: 0x6d744027857300b0,
-            s: 0xe76bd7a1e63b9788,
-            z: 0x1563fd06d28a2cf9,
-            y: 0x4f3ef2ef4c1912db,
+        23 => Digits {
+            ch: 0x6d744027,
+            cl: 0x857300b0,
+            sh: 0xe76bd7a1,
+            sl: 0xe63b9788,
         },
-        24 => Turn {
-            c: 0x61f78a9abaa58b48,
-            s: 0xec835e79946a3148,
-            z: 0x1630a2dd761e086e,
-            y: 0x51517a7bdb3894c0,
+        24 => Digits {
+            ch: 0x61f78a9a,
+            cl: 0xbaa58b48,
+            sh: 0xec835e79,
+            sl: 0x946a3148,
         },
-        25 => Turn {
-            c: 0x563e69d6ac7f73f8,
-            s: 0xf1090827b4372600,
-            z: 0x171711c033e92cc1,
-            y: 0x535953ca20f6f641,
+        25 => Digits {
+            ch: 0x563e69d6,
+            cl: 0xac7f73f8,
+            sh: 0xf1090827,
+            sl: 0xb4372600,
         },
-        26 => Turn {
-            c: 0x4a5018bb567c16a0,
-            s: 0xf4fa0ab6316ed2f0,
-            z: 0x1816bb91cf02a2ce,
-            y: 0x55553e3f5b5e578a,
+        26 => Digits {
+            ch: 0x4a5018bb,
+            cl: 0x567c16a0,
+            sh: 0xf4fa0ab6,
+            sl: 0x316ed2f0,
         },
-        27 => Turn {
-            c: 0x3e33f2f642be3560,
-            s: 0xf853f7dc9186b950,
-            z: 0x192f02a5a577622a,
-            y: 0x5744009cc9d9107e,
+        27 => Digits {
+            ch: 0x3e33f2f6,
+            cl: 0x42be3560,
+            sh: 0xf853f7dc,
+            sl: 0x9186b950,
         },
-        28 => Turn {
-            c: 0x31f17078d34c1570,
-            s: 0xfb14be7fbae58158,
-            z: 0x1a5f3a20ee39cd27,
-            y: 0x592469c0dcf32d7d,
+        28 => Digits {
+            ch: 0x31f17078,
+            cl: 0xd34c1570,
+            sh: 0xfb14be7f,
+            sl: 0xbae58158,
         },
-        29 => Turn {
-            c: 0x259020dd1cc27448,
-            s: 0xfd3aabf84528b508,
-            z: 0x1ba6a66553c29ad6,
-            y: 0x5af55163650cc818,
+        29 => Digits {
+            ch: 0x259020dd,
+            cl: 0x1cc27448,
+            sh: 0xfd3aabf8,
+            sl: 0x4528b508,
         },
-        30 => Turn {
-            c: 0x1917a6bc29b42be0,
-            s: 0xfec46d1e89292cf0,
-            z: 0x1d047d84a9a454e6,
-            y: 0x5cb598cc4beea022,
+        30 => Digits {
+            ch: 0x1917a6bc,
+            cl: 0x29b42be0,
+            sh: 0xfec46d1e,
+            sl: 0x89292cf0,
         },
-        _ => Turn {
-            c: 0xc8fb2f886ec09f0,
-            s: 0xffb10f1bcb6bef20,
-            z: 0x1e77e7bd75b500de,
-            y: 0x5e642b84688ffca6,
+        _ => Digits {
+            ch: 0xc8fb2f8,
+            cl: 0x86ec09f0,
+            sh: 0xffb10f1b,
+            sl: 0xcb6bef20,
         },
     }
 }

@@ -32,7 +32,7 @@ struct Wings {
 }
 
 // The sum and the difference of E and the turned O.
-fn butterfly(j: usize, er: u64, ei: u64, or: u64, oi: u64) -> Wings
+fn butterfly(j: u32, er: u64, ei: u64, or: u64, oi: u64) -> Wings
     requires { ⌜ (1 ≤ j) × (j < 32) × Inside er × Inside ei × Inside or × Inside oi ⌝ }
     ensures { λ w. ⌜ Butterfly j er ei or oi (w .a) (w .b) (w .e) (w .d) ⌝ }
 {
@@ -48,15 +48,16 @@ fn butterfly(j: usize, er: u64, ei: u64, or: u64, oi: u64) -> Wings
 }
 
 // One butterfly in a block of 4 g words.
-fn wing(r: &mut [u64], g: usize, st: usize, k: usize)
+fn wing(r: &mut [u64], g: u32, st: u32, k: u32)
     requires { ⌜ (1 ≤ k) × (k < g) × (g * st ≡ 32) × (length (now r) ≡ 4 * g) × Inside (getD (now r) k 0) × Inside (getD (now r) (2 * g - k) 0) × Inside (getD (now r) (2 * g + k) 0) × Inside (getD (now r) (4 * g - k) 0) ⌝ }
     ensures { λ _. ⌜ Winged g st k (λ i. getD (now (r .entry)) i 0) (λ i. getD (now (r .exit)) i 0) ⌝ }
 {
-    let b = 2 * g - k;
-    let e = 2 * g + k;
-    let d = 4 * g - k;
-    let w = butterfly(k * st, r[k], r[b], r[e], r[d]);
-    r[k] = w.a;
+    let a = k as usize;
+    let b = (2 * g - k) as usize;
+    let e = (2 * g + k) as usize;
+    let d = (4 * g - k) as usize;
+    let w = butterfly(k * st, r[a], r[b], r[e], r[d]);
+    r[a] = w.a;
     r[b] = w.b;
     r[e] = w.e;
     r[d] = w.d;
@@ -78,11 +79,11 @@ fn straight(r: &mut [u64], g: usize)
 }
 
 // Two blocks of 2 g words, one after the other, become one of 4 g.
-fn combine(r: &mut [u64], g: usize, st: usize)
+fn combine(r: &mut [u64], g: u32, st: u32)
     requires { ⌜ (1 ≤ g) × (g * st ≡ 32) × (length (now r) ≡ 4 * g) × ((i : ℕ) → i < 4 * g → Inside (getD (now r) i 0)) ⌝ }
     ensures { λ _. ⌜ Combined g st (λ i. getD (now (r .entry)) i 0) (λ i. getD (now (r .entry)) (2 * g + i) 0) (λ i. getD (now (r .exit)) i 0) ⌝ }
 {
-    straight(r, g);
+    straight(r, g as usize);
     let mut k = 1;
     while k < g {
         wing(r, g, st, k);
@@ -128,5 +129,5 @@ pub fn fill(y: &[u64], off: usize, st: usize, r: &mut [u64])
     let h = n / 2;
     fill(y, off, 2 * st, &mut r[..h]);
     fill(y, off + st, 2 * st, &mut r[h..]);
-    combine(r, h / 2, st);
+    combine(r, (h / 2) as u32, st as u32);
 }

@@ -46,6 +46,9 @@ returns-4 c = let s = c .before .before .before .before .before .before .before 
 scale-requires : tie.Need-scale-requires
 scale-requires c κs = search needs
 
+cast-any : tie.Need-cast-any
+cast-any c = omega (arith, c .scale .ensures .high)
+
 slice-aggregate-load-all : tie.Need-slice-aggregate-load-all
 slice-aggregate-load-all c = search needs
 
@@ -96,6 +99,7 @@ transform-spec =
     largest-requires
     returns-4
     scale-requires
+    cast-any
     slice-aggregate-load-all
     load-all-requires
     slice-aggregate-fill

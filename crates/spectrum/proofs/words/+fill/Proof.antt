@@ -11,7 +11,7 @@ use lib.ListN.{length}
 use lib.Pow.{pow-pos}
 use lib.Seq.{length-take-le}
 use Rattle.spectrum.specs.Words.{Fillable}
-use Rattle.spectrum.proofs.Blocks.{half-fits, shorter, rest-shorter, rest-half, mid-length, fillable, stride-of, stride-most, leaf-filled, deeper, few, inside, some-words, around, four-times, all-inside, first-four, second-four, once-length, twice-length, first-length, second-length, first-half, second-half, both-filled, twice}
+use Rattle.spectrum.proofs.Blocks.{half-fits, shorter, rest-shorter, rest-half, mid-length, fillable, stride-of, stride-most, words-most, leaf-filled, deeper, few, inside, some-words, around, four-times, all-inside, first-four, second-four, once-length, twice-length, first-length, second-length, first-half, second-half, both-filled, twice}
 use Rattle.spectrum.proofs.words.fill.Reads as fill
 use Rattle.spectrum.proofs.words.fill.Kinds as fill-kinds
 use Rattle.spectrum.proofs.words.leaf.Reads as leaf-reads
@@ -89,6 +89,12 @@ fill-fill-requires-2 t c κs =
       fillable (s .args .off + s .args .st) _ (s .pre .1) (c .before .before .before .before .before .if1 .left) (omega (arith, s .pre .1 .start)) (m ∙ rest-half l (s .pre .1 .s) (s .pre .1 .size)),
     )
 
+fill-cast-combine : (t : ℕ) → fill-lts.Need-cast-combine (leaf-reads.Asked, leaf-reads.Learnt, fill-below t, fill.Post, combine-reads.Asked, combine-reads.Learnt) (fill-at t) fill.Post
+fill-cast-combine t c = omega (arith, words-most (c .before .before .before .before .before .before .before .before .before .before .before .before .pre .1))
+
+fill-cast-combine-2 : (t : ℕ) → fill-lts.Need-cast-combine-2 (leaf-reads.Asked, leaf-reads.Learnt, fill-below t, fill.Post, combine-reads.Asked, combine-reads.Learnt) (fill-at t) fill.Post
+fill-cast-combine-2 t c = omega (arith, stride-most (c .before .before .before .before .before .before .before .before .before .before .before .before .pre .1))
+
 fill-combine-requires : (t : ℕ) → fill-lts.Need-combine-requires (leaf-reads.Asked, leaf-reads.Learnt, fill-below t, fill.Post, combine-reads.Asked, combine-reads.Learnt) (fill-at t) fill.Post
 fill-combine-requires t c κs =
     let s = c .before .before .before .before .before .before .before .before .before .before .before .before in
@@ -127,4 +133,4 @@ fill-returns-2 t c =
     (second-length l l₁ l₂ (length l / 2) f k₁ k₂) (fill-same-length-2 t c) (first-half l l₁ l₂ (length l / 2) f k₁ k₂) (second-half l l₁ l₂ (length l / 2) f k₁ k₂) (c .before .before .before .before .before .before .before .before .before .before .fill .ensures) (c .before .before .before .before .before .before .fill2 .ensures) (c .before .before .combine .ensures)
 
 pub +fill-spec : {M : Type 1} → statement M
-+fill-spec = close μ-fill (λ t. fill-lts.spec (leaf-reads.Asked, leaf-reads.Learnt, fill-below t, fill.Post, combine-reads.Asked, combine-reads.Learnt) (fill-at t) fill.Post (fill-leaf-requires t) (fill-same-length t) (fill-returns t) (fill-mul-fill t) (fill-slice-relend-prefix-fill t) (fill-slice-aggregate-fill t) (fill-fill-requires t) (fill-add-fill t) (fill-mul-fill-2 t) (fill-mul-fill-3 t) (fill-sub-fill t) (fill-part-fill-start t) (fill-part-fill-end t) (fill-fill-requires-2 t) (fill-combine-requires t) (fill-same-length-2 t) (fill-returns-2 t))
++fill-spec = close μ-fill (λ t. fill-lts.spec (leaf-reads.Asked, leaf-reads.Learnt, fill-below t, fill.Post, combine-reads.Asked, combine-reads.Learnt) (fill-at t) fill.Post (fill-leaf-requires t) (fill-same-length t) (fill-returns t) (fill-mul-fill t) (fill-slice-relend-prefix-fill t) (fill-slice-aggregate-fill t) (fill-fill-requires t) (fill-add-fill t) (fill-mul-fill-2 t) (fill-mul-fill-3 t) (fill-sub-fill t) (fill-part-fill-start t) (fill-part-fill-end t) (fill-fill-requires-2 t) (fill-cast-combine t) (fill-cast-combine-2 t) (fill-combine-requires t) (fill-same-length-2 t) (fill-returns-2 t))

@@ -2,30 +2,12 @@
 use mathlib.Core.Path.{_≡_}
 use Prim.Native.Nat.{ℕ, zero, suc, _*_, _≤_, _<_}
 use native.Mathlib.Nat.{mul-lt-mul-of-pos-right, mul-le-mul}
+use Rattle.spectrum.proofs.Blocks.{quarter-most}
 use Rattle.spectrum.proofs.Stores.{winged, wing-in, wing-in-2, wing-in-3}
 use native.Mathlib.Omega.{arith}
 use borrow.Author.Needs.{needs}
-use borrow.Author.Needs.{needs}
 use Rattle.spectrum.proofs.words.wing.Statement.{statement}
 use Rattle.spectrum.proofs.words.wing.Tie as tie
-
-mul-b : tie.Need-mul-b
-mul-b c = search needs
-
-sub-b : tie.Need-sub-b
-sub-b c = search needs
-
-mul-e : tie.Need-mul-e
-mul-e c = search needs
-
-add-e : tie.Need-add-e
-add-e c = search needs
-
-mul-d : tie.Need-mul-d
-mul-d c = search needs
-
-sub-d : tie.Need-sub-d
-sub-d c = search needs
 
 -- the turn is less than a quarter
 turn : (k g st : ℕ) → 1 ≤ k → k < g → g * st ≡ 32 → (1 ≤ k * st) × (k * st < 32)
@@ -34,6 +16,33 @@ turn k g st low high whole = (omega (arith, mul-le-mul low (step g st whole)), o
     step : (g st : ℕ) → g * st ≡ 32 → 1 ≤ st
     step g zero e = absurd (omega arith)
     step g (suc st) e = omega arith
+
+mul-b : tie.Need-mul-b
+mul-b c = let s = c .before in omega (arith, quarter-most (s .args .g) (s .args .st) (s .pre .2))
+
+sub-b : tie.Need-sub-b
+sub-b c = search needs
+
+cast-b : tie.Need-cast-b
+cast-b c = let s = c .before in omega (arith, quarter-most (s .args .g) (s .args .st) (s .pre .2))
+
+mul-e : tie.Need-mul-e
+mul-e c = let s = c .before in omega (arith, quarter-most (s .args .g) (s .args .st) (s .pre .2))
+
+add-e : tie.Need-add-e
+add-e c = let s = c .before in omega (arith, quarter-most (s .args .g) (s .args .st) (s .pre .2))
+
+cast-e : tie.Need-cast-e
+cast-e c = let s = c .before in omega (arith, quarter-most (s .args .g) (s .args .st) (s .pre .2))
+
+mul-d : tie.Need-mul-d
+mul-d c = let s = c .before in omega (arith, quarter-most (s .args .g) (s .args .st) (s .pre .2))
+
+sub-d : tie.Need-sub-d
+sub-d c = search needs
+
+cast-d : tie.Need-cast-d
+cast-d c = let s = c .before in omega (arith, quarter-most (s .args .g) (s .args .st) (s .pre .2))
 
 mul-butterfly : tie.Need-mul-butterfly
 mul-butterfly c = let s = c .before in omega (arith, turn (s .args .k) (s .args .g) (s .args .st) (s .pre .0) (s .pre .1) (s .pre .2) .1)
@@ -104,10 +113,13 @@ wing-spec =
     (tie.spec
     mul-b
     sub-b
+    cast-b
     mul-e
     add-e
+    cast-e
     mul-d
     sub-d
+    cast-d
     mul-butterfly
     mul-butterfly-2
     slice-read-butterfly

@@ -1,0 +1,14 @@
+pub mod Squares
+pub mod Products
+pub mod Roots
+pub mod Bins
+pub mod Channels
+pub mod Adding
+pub mod Envelopes
+pub mod Frames
+pub mod Bandwise
+pub mod Ratios
+pub mod Current
+pub mod Promise
+pub mod Louder
+pub mod Alone
