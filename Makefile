@@ -64,7 +64,7 @@ filter: build/filter
 hear: build/electrodogram build/hear
 	@tools/need --install espeak-ng sox
 	espeak-ng -v en -s 150 -w build/spoken.wav "Anna, can you hear your name?"
-	sox build/spoken.wav -r 16000 -c 1 -b 16 build/speech.wav norm -3
+	sox -R -D build/spoken.wav -r 16000 -c 1 -b 16 build/speech.wav norm -3
 	build/electrodogram --svg build/speech.wav >docs/electrodogram.svg
 	sox build/speech.wav -t raw - | build/hear
 
