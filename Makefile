@@ -6,6 +6,7 @@
 # make bench   speed beside newlib's and glibc's functions, and beside a loop in C; writes docs/bench.txt
 # make filter  64 taps over a second of sound, examples/filter.c: its error beside the promise, its speed beside a plain loop
 # make hear    speech by espeak-ng as currents: the electrodogram, docs/electrodogram.svg, and how far it is from the exact path's
+# make report  the evidence as one page, build/report.html; LOG=file takes the log of a gate that has run on this commit
 # make times   seconds and peak memory of each crate's check
 # make chip    the archive for a Cortex-M4F; chip/rules.mk says what else there is for the chip
 
@@ -23,7 +24,7 @@ TEST_FLAGS = -std=c11 -D_POSIX_C_SOURCE=200809L $(CFLAGS) -pthread -Iinclude $(F
 vpath %.c $(FOLDERS)
 CRATES = crates.txt $(shell find crates -type f)
 
-.PHONY: all test tests every others hear bench filter times clean tools-for-make mpfr
+.PHONY: all test tests every others hear report bench filter times clean tools-for-make mpfr
 .DELETE_ON_ERROR:
 
 all: build/roots build/growth.svg build/filter build/electrodogram build/earmath
@@ -70,6 +71,9 @@ hear: build/electrodogram build/hear
 
 build/hear: bench/hear.c bench/straight.h build/helpers.a $(LIBRARY) $(HEADERS)
 	$(CC) $(TEST_FLAGS) -ffp-contract=off -Ibench $(filter %.c %.a,$^) -lmpfr -lgmp -lm -o $@
+
+report:
+	@tools/report $(LOG)
 
 times: tools-for-make
 	@tools/times
