@@ -5,6 +5,8 @@
 # make others  all 2^32 patterns through newlib's and glibc's functions, judged as ours are (some minutes)
 # make bench   speed beside newlib's and glibc's functions, and beside a loop in C; writes docs/bench.txt
 # make filter  64 taps over a second of sound, examples/filter.c: its error beside the promise, its speed beside a plain loop
+# make hear    speech by espeak-ng as currents: the electrodogram, docs/electrodogram.svg, and how far it is from the exact path's
+# make report  the evidence as one page, build/report.html; LOG=file takes the log of a gate that has run on this commit
 # make times   seconds and peak memory of each crate's check
 # make chip    the archive for a Cortex-M4F; chip/rules.mk says what else there is for the chip
 
@@ -22,10 +24,10 @@ TEST_FLAGS = -std=c11 -D_POSIX_C_SOURCE=200809L $(CFLAGS) -pthread -Iinclude $(F
 vpath %.c $(FOLDERS)
 CRATES = crates.txt $(shell find crates -type f)
 
-.PHONY: all test tests every others bench filter times clean tools-for-make mpfr
+.PHONY: all test tests every others hear report bench filter times clean tools-for-make mpfr
 .DELETE_ON_ERROR:
 
-all: build/roots build/growth.svg build/filter build/earmath
+all: build/roots build/growth.svg build/filter build/electrodogram build/earmath
 	@echo "The library is proved and built: $(LIBRARY). The example examples/roots.c, linked with it, says:"
 	@echo
 	@build/roots
@@ -59,6 +61,20 @@ bench: $(LIBRARY)
 filter: build/filter
 	build/filter
 
+# What it says, and the sound that it is drawn from, are the same in every run of one version of espeak-ng.
+hear: build/electrodogram build/hear
+	@tools/need --install espeak-ng sox
+	espeak-ng -v en -s 150 -w build/spoken.wav "Anna, can you hear your name?"
+	sox -R -D build/spoken.wav -r 16000 -c 1 -b 16 build/speech.wav norm -3
+	build/electrodogram --svg build/speech.wav >docs/electrodogram.svg
+	sox build/speech.wav -t raw - | build/hear
+
+build/hear: bench/hear.c bench/straight.h build/helpers.a $(LIBRARY) $(HEADERS)
+	$(CC) $(TEST_FLAGS) -ffp-contract=off -Ibench $(filter %.c %.a,$^) -lmpfr -lgmp -lm -o $@
+
+report:
+	@tools/report $(LOG)
+
 times: tools-for-make
 	@tools/times
 
@@ -85,7 +101,7 @@ build/earmath: $(CRATES) | tools-for-make
 	cp target/bin/ear $@
 
 # The examples are plain C99, as the header is.
-build/roots build/growth build/filter: build/%: examples/%.c include/earmath.h $(LIBRARY)
+build/roots build/growth build/filter build/electrodogram: build/%: examples/%.c include/earmath.h $(LIBRARY)
 	$(CC) -std=c99 -pedantic $(CFLAGS) -Iinclude $< $(LIBRARY) -lm -o $@
 
 build/growth.svg: build/growth

@@ -4,19 +4,18 @@
  * results.
  */
 #include <math.h>
-#include <mpfr.h>
 #include <stdint.h>
 #include <string.h>
 
 #include "earmath.h"
+#include "exact_path.h"
 #include "report.h"
 
-enum { N = 128, PARTS = 65, DIGITS = 200, FRAMES = 200, CHANNELS = 5, MOST = 65, WORDS = 6, TOP = 1023, KEPT = 0x5a5a5a5a };
+enum { N = 128, PARTS = 65, FRAMES = 200, CHANNELS = 5, MOST = 65, WORDS = 6, TOP = 1023, KEPT = 0x5a5a5a5a };
 
 static float x[N], w[N];
 static struct ear_band bands[MOST];
 static uint32_t out[MOST + 1];
-static mpfr_t cosine[N], sine[N], moduli[PARTS], product[N], re, im, sum, exact, log_b, t;
 
 /* The steepest that are accepted, some in use, the widest. */
 static const struct {
@@ -42,63 +41,6 @@ static float of_bits(uint32_t b)
     float f;
     memcpy(&f, &b, sizeof f);
     return f;
-}
-
-static void prepare(void)
-{
-    mpfr_inits2(DIGITS, re, im, sum, exact, log_b, t, (mpfr_ptr)0);
-    for (int j = 0; j < N; j++) {
-        mpfr_inits2(DIGITS, cosine[j], sine[j], product[j], (mpfr_ptr)0);
-        mpfr_const_pi(t, MPFR_RNDN);
-        mpfr_mul_si(t, t, j, MPFR_RNDN);
-        mpfr_div_si(t, t, 64, MPFR_RNDN);
-        mpfr_sin_cos(sine[j], cosine[j], t, MPFR_RNDN);
-    }
-    for (int k = 0; k < PARTS; k++)
-        mpfr_init2(moduli[k], DIGITS);
-}
-
-/* |X_k| of the frame. */
-static void transform(void)
-{
-    for (int n = 0; n < N; n++) {
-        mpfr_set_flt(product[n], x[n], MPFR_RNDN);
-        mpfr_mul_d(product[n], product[n], (double)w[n], MPFR_RNDN);
-    }
-    for (int k = 0; k < PARTS; k++) {
-        mpfr_set_zero(re, 1);
-        mpfr_set_zero(im, 1);
-        for (int n = 0; n < N; n++) {
-            mpfr_fma(re, product[n], cosine[k * n % N], re, MPFR_RNDN);
-            mpfr_fma(im, product[n], sine[k * n % N], im, MPFR_RNDN);
-        }
-        mpfr_hypot(moduli[k], re, im, MPFR_RNDN);
-    }
-}
-
-/* How far a step is from the exact path's. */
-static double distance_of(const struct ear_band *f, uint32_t step)
-{
-    mpfr_set_zero(sum, 1);
-    for (uint32_t k = f->lo; k <= f->hi; k++)
-        mpfr_add(sum, sum, moduli[k], MPFR_RNDN);
-    mpfr_div_ui(sum, sum, 64, MPFR_RNDN);
-    if (mpfr_cmp_d(sum, (double)f->b) <= 0)
-        return step - (double)f->t;
-    if (mpfr_cmp_d(sum, (double)f->m) >= 0)
-        return f->c - (double)step;
-    mpfr_set_flt(t, f->b, MPFR_RNDN);
-    mpfr_log2(log_b, t, MPFR_RNDN);
-    mpfr_log2(exact, sum, MPFR_RNDN);
-    mpfr_sub(exact, exact, log_b, MPFR_RNDN);
-    mpfr_set_flt(t, f->m, MPFR_RNDN);
-    mpfr_log2(t, t, MPFR_RNDN);
-    mpfr_sub(t, t, log_b, MPFR_RNDN);
-    mpfr_div(exact, exact, t, MPFR_RNDN);
-    mpfr_mul_ui(exact, exact, f->c - f->t, MPFR_RNDN);
-    mpfr_add_ui(exact, exact, f->t, MPFR_RNDN);
-    mpfr_sub_ui(exact, exact, step, MPFR_RNDN);
-    return fabs(mpfr_get_d(exact, MPFR_RNDN));
 }
 
 /* Bands that cover the bins in several ways; the kind of channel and the steps go round. */
@@ -158,10 +100,10 @@ static void frames(int kind)
         int wide = f % 2;
         uint32_t top = wide ? TOP : 255, n = (fill(kind, f), draw_bands(top));
         good = good && call(top, n) == EAR_OK;
-        transform();
+        exact_sizes(x, w);
         for (uint32_t i = 0; i < n; i++) {
             good = good && bands[i].t <= out[i] && out[i] <= bands[i].c && (kind != 8 || out[i] == bands[i].t);
-            worst[wide] = fmax(worst[wide], distance_of(&bands[i], out[i]));
+            worst[wide] = fmax(worst[wide], exact_distance(&bands[i], out[i]));
         }
     }
     group(good && worst[0] <= 0.501 && worst[1] <= 0.504, "currents of %s: at worst %.6f of a step, and %.6f of 1,023 steps", kinds[kind],
@@ -289,7 +231,7 @@ static void samples(void)
 
 int main(void)
 {
-    prepare();
+    open_path();
     for (size_t kind = 0; kind < sizeof kinds / sizeof kinds[0]; kind++)
         frames((int)kind);
     alone();
