@@ -13,7 +13,7 @@ use Rattle.loudness.specs.Map.{NearMap}
 use Rattle.loudness.specs.Value.{riseOf, stepsOf, stepOf}
 use Rattle.loudness.specs.Segment.{Segment}
 use Rattle.loudness.proofs.Steps.{Rounded, Allows, not-below, not-above}
-use Rattle.loudness.proofs.Words.{steps-rounded, steps-mono}
+use Rattle.loudness.proofs.Words.{wordParts, steps-rounded, steps-mono}
 use Rattle.loudness.proofs.Known.{parts, shift, width, Sound, low-sound, high-sound, encloses, rises, encloses-sum, rise-few, rise-octave}
 
 -- the three cases of the map
@@ -69,8 +69,8 @@ module _ (b m : Float) (t c : ℕ) (sg : Segment b m t c) where
   unfolding riseOf
   rise-most a s r = let l = rises s high r in omega arith
 
-  near : (a : Float) → Sound a → P a ≤ P m → Rounded k (riseOf b a) d 1073741824 (stepsOf k (riseOf b a) d)
-  near a s r = steps-rounded d span-long span-few (riseOf b a) (rise-most a s r) k
+  near : (a : Float) → Sound a → P a ≤ P m → Rounded k (riseOf b a) d wordParts (stepsOf k (riseOf b a) d)
+  near a s r = steps-rounded k d few span-long span-few (riseOf b a) (rise-most a s r)
 
   -- ---- between threshold and comfort
   pub inside : (a : Float) → Number a → (t ≤ stepOf b m t c a) × (stepOf b m t c a ≤ c)
@@ -90,7 +90,7 @@ module _ (b m : Float) (t c : ℕ) (sg : Segment b m t c) where
   -- ---- a louder sound never gets a smaller step
   steps-rise : (a a′ : Float) → Sound a → Sound a′ → P a′ ≤ P a → stepsOf k (riseOf b a′) d ≤ stepsOf k (riseOf b a) d
   unfolding riseOf
-  steps-rise a a′ s s′ less = let l = rises s′ s less in steps-mono d span-long span-few (riseOf b a′) (riseOf b a) k (omega arith)
+  steps-rise a a′ s s′ less = let l = rises s′ s less in steps-mono k d few span-long span-few (riseOf b a′) (riseOf b a) (omega arith)
 
   pub never-falls : (a a′ : Float) → Number a → Number a′ → P a′ ≤ P a → stepOf b m t c a′ ≤ stepOf b m t c a
   never-falls a a′ h h′ less = go (le-or-lt (P m) (P a)) (le-or-lt (P a′) (P b))
@@ -105,7 +105,7 @@ module _ (b m : Float) (t c : ℕ) (sg : Segment b m t c) where
           rw (step-between b m t c a′ l (lt-of-le-of-lt less r), step-between b m t c a (lt-of-lt-of-le l less) r) (omega arith)
 
   -- ---- within the constant of the exact map
-  pub within : (num den : ℕ) → Allows num den width k d 1073741824 → (a : Float) → Number a → P b < P a → P a < P m → NearMap num den b m t c a (stepOf b m t c a)
+  pub within : (num den : ℕ) → Allows num den width k d wordParts → (a : Float) → Number a → P b < P a → P a < P m → NearMap num den b m t c a (stepOf b m t c a)
   within num den al a h l r =
       let s = between-sound a h (le-of-lt l) (le-of-lt r) in
       let n = riseOf b a in
@@ -115,6 +115,6 @@ module _ (b m : Float) (t c : ℕ) (sg : Segment b m t c) where
       let A = encloses-sum low s (le-of-lt l) in
       let M = encloses-sum low high b≤m in
       record {
-        not-below = rw steps (not-below (P a) (P b) (P m) (2 ^ 22) (fixedOf b) n d width shift parts k 1073741824 i num den ro al A (encloses low) M);
-        not-above = rw steps (not-above (P a) (P b) (P m) (2 ^ 22) (fixedOf b) n d width shift parts k 1073741824 i num den ro al A (encloses low) M (le-of-lt l));
+        not-below = rw steps (not-below (P a) (P b) (P m) (2 ^ 22) (fixedOf b) n d width shift parts k wordParts i num den ro al A (encloses low) M);
+        not-above = rw steps (not-above (P a) (P b) (P m) (2 ^ 22) (fixedOf b) n d width shift parts k wordParts i num den ro al A (encloses low) M (le-of-lt l));
       }

@@ -15,6 +15,7 @@ use Rattle.loudness.specs.Map.{Channel, Envelope, mapErrorNum, mapErrorD
 use Rattle.loudness.specs.Value.{riseOf, stepOf}
 use Rattle.loudness.specs.Segment.{Segment}
 use Rattle.loudness.proofs.Steps.{Allows}
+use Rattle.loudness.proofs.Words.{wordParts}
 use Rattle.loudness.proofs.Known.{parts, width}
 use Rattle.loudness.proofs.Growth.{step-quiet, step-loud, span-octave, inside, never-falls, within}
 
@@ -22,16 +23,16 @@ use Rattle.loudness.proofs.Growth.{step-quiet, step-loud, span-octave, 
 pub segment : {top : ℕ} {b m : Float} {t c : ℕ} → Channel top b m t c → Segment b m t c
 segment ch = let s = ch .steps in let h = ch .highest in record { levels = ch .levels; order = ch .order; few = omega arith }
 
--- e millionths of a step beside the half allow the errors of the words and of the logarithms over k steps, each with its share
-allows : (k e d : ℕ) → 4000000 * k ≤ e * 1073741824 → 4 * (width * (4000000 * k + 1000000 + 2 * e)) ≤ 7 * e * d → Allows (500000 + e) mapErrorDen width k d 1073741824
+-- e millionths of a step beside the half allow the errors of the factor and of the logarithms over k steps, each with its share
+allows : (k e d : ℕ) → 4000000 * k ≤ e * 1040000000 → 100 * (width * (4000000 * k + 1000000 + 2 * e)) ≤ 148 * e * d → Allows (500000 + e) mapErrorDen width k d wordParts
 allows k e d words logs = joined (mul-le-mul-right d words)
   where
-    joined : 4000000 * k * d ≤ e * 1073741824 * d → Allows (500000 + e) mapErrorDen width k d 1073741824
+    joined : 4000000 * k * d ≤ e * 1040000000 * d → Allows (500000 + e) mapErrorDen width k d wordParts
     joined a = omega arith
 
 module _ (top : ℕ) (b m : Float) (t c : ℕ) (ch : Channel top b m t c) where
   -- so the constant allows them over all steps and an octave
-  allowed : Allows (mapErrorNum top) mapErrorDen width (c - t) (riseOf b m) 1073741824
+  allowed : Allows (mapErrorNum top) mapErrorDen width (c - t) (riseOf b m) wordParts
   allowed =
       let s = ch .steps in
       let o = span-octave b m t c (segment ch) in
@@ -40,10 +41,10 @@ module _ (top : ℕ) (b m : Float) (t c : ℕ) (ch : Channel top b m t c) where
         | inr h ↦ let l = ch .highest in rw (lt-leb top 255 h) (longer (c - t) (riseOf b m) (omega arith) o)
       ]
     where
-      short : (k d : ℕ) → k ≤ 255 → parts ≤ d + width → Allows 500001 mapErrorDen width k d 1073741824
+      short : (k d : ℕ) → k ≤ 255 → parts ≤ d + width → Allows 500001 mapErrorDen width k d wordParts
       short k d few long = allows k 1 d (omega arith) (omega arith)
 
-      longer : (k d : ℕ) → k ≤ 1023 → parts ≤ d + width → Allows 500004 mapErrorDen width k d 1073741824
+      longer : (k d : ℕ) → k ≤ 1023 → parts ≤ d + width → Allows 500004 mapErrorDen width k d wordParts
       longer k d few long = allows k 4 d (omega arith) (omega arith)
 
   -- m is above b

@@ -19,12 +19,11 @@ pub record Inside (b m : Float) (t c : ℕ) (a : Float) : Type 0 where
   pub above : P b < P a
   pub below : P a < P m
 
--- k steps over a word h with its first digit set, of them those up to n
-pub record Quotient (k n h : ℕ) : Type 0 where
+-- k steps over a rise of d: from about an octave to 32
+pub record Spans (k d : ℕ) : Type 0 where
   pub steps : k ≤ 1023
-  pub within : n ≤ h
-  pub full : 2 ^ 31 ≤ h
-  pub word : h < 2 ^ 32
+  pub long : 2 ^ 53 ≤ d
+  pub short : d < 2 ^ 59
 
 -- the pattern of a, with 0 for -0: of envelope values these are in the order of the values
 unfoldable pub sizeBits : Float → ℕ

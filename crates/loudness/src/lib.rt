@@ -5,14 +5,14 @@ pub mod knee;
 
 ghost use mathlib.Core.Path.{_≡_};
 ghost use mathlib.Core.Bool.{not};
-ghost use Prim.Native.Nat.{_-_};
+ghost use Prim.Native.Nat.{_-_, _<_};
 ghost use lib.Dec.{T};
 ghost use lib.Ieee.{isNan};
 ghost use Rattle.units.specs.Answers.{Ends, itself};
 ghost use Rattle.units.specs.Tests.{Tells};
 ghost use Rattle.loudness.specs.Map.{Levels, Channel, Envelope, Loudness};
-ghost use Rattle.loudness.specs.Value.{riseOf, nearestStep, stepsOf, stepOf};
-ghost use Rattle.loudness.specs.Segment.{Segment, Inside, Quotient, sizeBits};
+ghost use Rattle.loudness.specs.Value.{riseOf, factorOf, shiftOf, scaled, stepsOf, stepOf};
+ghost use Rattle.loudness.specs.Segment.{Segment, Inside, Spans, sizeBits};
 
 // Whether 2 ^ -24 <= b and 2 b <= m <= 1: a pattern with one more in its exponent is that of twice the size.
 fn in_order(b: f32, m: f32) -> bool
@@ -54,18 +54,41 @@ pub fn is_channel(top: u32, b: f32, m: f32, t: u32, c: u32) -> bool
     false
 }
 
-// k n / h to the nearest whole number, at most 1,023: one division of 32 digits, at most 1 too small.
-fn nearest_step(k: u32, n: u32, h: u32) -> u32
-    requires { ⌜ Quotient k n h ⌝ }
-    ensures { λ i. ⌜ i ≡ nearestStep k n h ⌝ }
+// k steps over a span of levels: r, and by how many places a product with it is too large, less one.
+pub struct Scale {
+    pub r: u32,
+    pub s: u32,
+}
+
+// The factor by which rises become steps, of k steps over a rise of d: a division of 64 digits by 32.
+fn factor(k: u32, d: u64) -> Scale
+    requires { ⌜ Spans k d ⌝ }
+    ensures { λ f. ⌜ (f .r ≡ factorOf k d) × (f .s ≡ shiftOf k d) ⌝ }
 {
-    let w = h as u64;
-    let p = (k as u64) * (n as u64) + (h / 2) as u64;
-    let q = (p / 2048) as u32 / (h / 2048 + 1);
-    if p - (q as u64) * w < w {
-        return q;
+    let s = u32::leading_zeros((d / 4294967296) as u32);
+    let h = fixed::upper_word(d, s);
+    let z = u32::leading_zeros(k);
+    let n = k << (z - 1);
+    if n * 2 <= h {
+        return Scale {
+            r: fixed::division::quotient_of_next(n as u64 * 8589934592, h),
+            s: z - s - 1,
+        };
     }
-    q + 1
+    Scale {
+        r: fixed::division::quotient_of_next(n as u64 * 4294967296, h),
+        s: z - s - 2,
+    }
+}
+
+// A rise times a factor, to the nearest whole number of steps: of any numbers.
+fn scaled(n: u64, r: u32, s: u32) -> u32
+    requires { ⌜ s < 32 ⌝ }
+    ensures { λ i. ⌜ i ≡ scaled n r s ⌝ }
+{
+    let f = r as u64;
+    let p = n / 4294967296 * f + n % 4294967296 * f / 4294967296;
+    (((p / 4294967296) as u32 >> s) + 1) / 2
 }
 
 // The pattern of a, with 0 for -0.
@@ -90,16 +113,14 @@ fn is_envelope(a: f32) -> bool
     size_bits(a) <= 0x3f80_0000
 }
 
-// The steps from b to an envelope value between b and m: one logarithm for each, and their rises as words of 32 digits.
+// The steps from b to an envelope value between b and m: one logarithm for each.
 fn steps_between(b: f32, m: f32, t: u32, c: u32, a: f32) -> u32
     requires { ⌜ Inside b m t c a ⌝ }
     ensures { λ r. ⌜ r ≡ stepsOf (c - t) (riseOf b a) (riseOf b m) ⌝ }
 {
     let low = logs::fixed_log2(b);
-    let d = logs::fixed_log2(m) - low;
-    let n = logs::fixed_log2(a) - low;
-    let s = u32::leading_zeros((d / 4294967296) as u32);
-    nearest_step(c - t, fixed::upper_word(n, s), fixed::upper_word(d, s))
+    let f = factor(c - t, logs::fixed_log2(m) - low);
+    scaled(logs::fixed_log2(a) - low, f.r, f.s)
 }
 
 // The step of an envelope value in a segment.
