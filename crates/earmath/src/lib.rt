@@ -6,6 +6,7 @@ ghost use Rattle.roots.specs.Sqrt.{Sqrt};
 ghost use Rattle.roots.specs.Rsqrt.{Rsqrt};
 ghost use Rattle.loudness.specs.Map.{Loudness};
 ghost use Rattle.loudness.specs.Knee.{LoudnessKnee};
+ghost use Rattle.loudness.specs.Fitted.{themselves, Fit, FitKnee, Step};
 ghost use Rattle.powers.specs.Exp2.{Exp2};
 ghost use Rattle.logs.specs.Log2.{Log2};
 ghost use Rattle.circle.specs.Promise.{SinPi, CosPi, Sin, Cos};
@@ -142,4 +143,37 @@ pub extern "C" fn ear_loudness_knee(
     ensures { λ code. ⌜ Ends itself (LoudnessKnee top b k m t kk c a) code (now (out .entry)) (now (out .exit)) ⌝ }
 {
     loudness::knee::loudness_knee(top, b, k, m, t, kk, c, a, out)
+}
+
+// What the map needs of a channel, worked out once, in 7 words: those that ear_step takes; or code 2 or 4 and nothing written.
+#[no_mangle]
+pub extern "C" fn ear_fit(top: u32, b: f32, m: f32, t: u32, c: u32, words: &mut [u32]) -> u32
+    ensures { λ code. ⌜ Ends themselves (Fit top b m t c (length (now (words .entry)))) code (now (words .entry)) (now (words .exit)) ⌝ }
+{
+    loudness::fitted::fit(top, b, m, t, c, words)
+}
+
+// The same of a bent channel, in 14 words.
+#[no_mangle]
+pub extern "C" fn ear_fit_knee(
+    top: u32,
+    b: f32,
+    k: f32,
+    m: f32,
+    t: u32,
+    kk: u32,
+    c: u32,
+    words: &mut [u32],
+) -> u32
+    ensures { λ code. ⌜ Ends themselves (FitKnee top b k m t kk c (length (now (words .entry)))) code (now (words .entry)) (now (words .exit)) ⌝ }
+{
+    loudness::fitted::fit_knee(top, b, k, m, t, kk, c, words)
+}
+
+// The step of an envelope value by the words of a fitted channel: the map's; or code 2, 4 or 1 and nothing written.
+#[no_mangle]
+pub extern "C" fn ear_step(words: &[u32], a: f32, out: &mut u32) -> u32
+    ensures { λ code. ⌜ Ends itself (Step (now (words .entry)) a) code (now (out .entry)) (now (out .exit)) ⌝ }
+{
+    loudness::fitted::step(words, a, out)
 }

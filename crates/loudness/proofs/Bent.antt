@@ -73,7 +73,7 @@ module _ (top : ℕ) (b k m : Float) (t s c : ℕ) (ch : BentChannel top b k m t
       go (inr h) (inl g) = le-trans (below-knee a′ e′ g .1) (above-knee a e h .0)
       go (inr h) (inr g) = rw (knee-above b k m t s c a h, knee-above b k m t s c a′ g) (never-falls k m s c (segment (ch .upper)) a a′ (e .number) (e′ .number) less)
 
-  kept : (a : Float) → Envelope a → LoudnessKnee top b k m t s c a 0 (kneeOf b k m t s c a)
+  pub kept : (a : Float) → Envelope a → LoudnessKnee top b k m t s c a 0 (kneeOf b k m t s c a)
   kept a e = record {
     bad-channel = λ h. absurd (h ch);
     out-of-range = λ h n. absurd (n e);
@@ -92,7 +92,7 @@ module _ (top : ℕ) (b k m : Float) (t s c : ℕ) (ch : BentChannel top b k m t
   }
 
 -- an accepted channel with another a
-out-of-range : (top : ℕ) (b k m : Float) (t s c : ℕ) (a : Float) → BentChannel top b k m t s c → ¬ Envelope a → LoudnessKnee top b k m t s c a 1 0
+pub out-of-range : (top : ℕ) (b k m : Float) (t s c : ℕ) (a : Float) → BentChannel top b k m t s c → ¬ Envelope a → LoudnessKnee top b k m t s c a 1 0
 out-of-range top b k m t s c a ch n = record {
   bad-channel = λ h. absurd (h ch);
   out-of-range = λ h g. refl;

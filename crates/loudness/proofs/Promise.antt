@@ -73,7 +73,7 @@ module _ (top : ℕ) (b m : Float) (t c : ℕ) (ch : Channel top b m t c) where
       }
 
 -- an accepted channel with another a
-out-of-range : (top : ℕ) (b m : Float) (t c : ℕ) (a : Float) → Channel top b m t c → ¬ Envelope a → Loudness top b m t c a 1 0
+pub out-of-range : (top : ℕ) (b m : Float) (t c : ℕ) (a : Float) → Channel top b m t c → ¬ Envelope a → Loudness top b m t c a 1 0
 out-of-range top b m t c a ch n = record {
   bad-channel = λ h. absurd (h ch);
   out-of-range = λ h k. refl;

@@ -3,7 +3,7 @@
 use mathlib.Core.Path.{_≡_, refl, sym, ap, _∙_}
 use mathlib.Core.Logic.{_⊎_, inl, inr}
 use Prim.Native.Nat.{ℕ, suc, _+_, _-_, _*_, _/_, _^_, _≤_, _<_}
-use native.Mathlib.Nat.{eq-zero-or-pos, le-refl, le-trans, le-of-eq, lt-of-lt-of-le, lt-of-le-of-lt, add-le-add, mul-pos, mul-lt-mul-of-pos-right, mul-le-mul-left, mul-le-mul-right, le-of-mul-le-mul-right, div-mul-le-self, lt-div-mul-add, le-div-iff-mul-le, div-div-eq-div-mul}
+use native.Mathlib.Nat.{eq-zero-or-pos, le-refl, le-trans, le-of-eq, lt-of-lt-of-le, lt-of-le-of-lt, add-le-add, mul-pos, mul-lt-mul-of-pos-right, mul-le-mul-left, mul-le-mul-right, le-of-mul-le-mul-right, div-mul-le-self, lt-div-mul-add, div-lt-iff-lt-mul, le-div-iff-mul-le, div-div-eq-div-mul}
 use native.Mathlib.Omega.{arith}
 use lib.Dec.{lit<}
 use lib.Count.{leadingZeros, leading-top, leading-length}
@@ -186,6 +186,13 @@ module _ (k d : ℕ) (few : k ≤ 1023) (long : 2 ^ 53 ≤ d) (short : d < 2 ^ 5
 
   pub divides : N < (spanOf d + 1) * 4294967296
   divides = digits .0
+
+  pub factor-few : factorOf k d < 4294967296
+  unfolding factorOf
+  factor-few = div-lt-iff-lt-mul {k = spanOf d + 1} (omega arith) .1 (turned (spanOf d + 1) divides)
+    where
+      turned : (h : ℕ) → N < h * 4294967296 → N < 4294967296 * h
+      turned h l = omega arith
 
   factor-low : factorOf k d * (spanOf d + 1) ≤ N
   unfolding factorOf

@@ -1,18 +1,19 @@
 // The loudness map: from an envelope value to a current step, straight in the logarithm between threshold and comfort.
 // Levels are compared by their patterns, which are in the order of their sizes.
 
+pub mod fitted;
 pub mod knee;
 
 ghost use mathlib.Core.Path.{_≡_};
 ghost use mathlib.Core.Bool.{not};
-ghost use Prim.Native.Nat.{_-_, _<_};
+ghost use Prim.Native.Nat.{_-_, _^_, _≤_, _<_};
 ghost use lib.Dec.{T};
 ghost use lib.Ieee.{isNan};
 ghost use Rattle.units.specs.Answers.{Ends, itself};
 ghost use Rattle.units.specs.Tests.{Tells};
 ghost use Rattle.loudness.specs.Map.{Levels, Channel, Envelope, Loudness};
 ghost use Rattle.loudness.specs.Value.{riseOf, factorOf, shiftOf, scaled, stepsOf, stepOf};
-ghost use Rattle.loudness.specs.Segment.{Segment, Inside, Spans, sizeBits};
+ghost use Rattle.loudness.specs.Segment.{Segment, Inside, Spans, IsLine, sizeBits};
 
 // Whether 2 ^ -24 <= b and 2 b <= m <= 1: a pattern with one more in its exponent is that of twice the size.
 fn in_order(b: f32, m: f32) -> bool
@@ -84,7 +85,7 @@ fn factor(k: u32, d: u64) -> Scale
 // A rise times a factor, to the nearest whole number of steps: of any numbers.
 fn scaled(n: u64, r: u32, s: u32) -> u32
     requires { ⌜ s < 32 ⌝ }
-    ensures { λ i. ⌜ i ≡ scaled n r s ⌝ }
+    ensures { λ i. ⌜ (i ≡ scaled n r s) × (i ≤ 2 ^ 31) ⌝ }
 {
     let f = r as u64;
     let p = n / 4294967296 * f + n % 4294967296 * f / 4294967296;
@@ -113,14 +114,34 @@ fn is_envelope(a: f32) -> bool
     size_bits(a) <= 0x3f80_0000
 }
 
-// The steps from b to an envelope value between b and m: one logarithm for each.
+// The line of a segment: the logarithm of its lower level, and the factor of its rises.
+pub struct Line {
+    pub low: u64,
+    pub r: u32,
+    pub s: u32,
+}
+
+// What the map needs of a segment: two logarithms, and the factor.
+fn line_of(b: f32, m: f32, t: u32, c: u32) -> Line
+    requires { ⌜ Segment b m t c ⌝ }
+    ensures { λ l. ⌜ IsLine b m t c (l .low) (l .r) (l .s) ⌝ }
+{
+    let low = logs::fixed_log2(b);
+    let f = factor(c - t, logs::fixed_log2(m) - low);
+    Line {
+        low,
+        r: f.r,
+        s: f.s,
+    }
+}
+
+// The steps from b to an envelope value between b and m.
 fn steps_between(b: f32, m: f32, t: u32, c: u32, a: f32) -> u32
     requires { ⌜ Inside b m t c a ⌝ }
     ensures { λ r. ⌜ r ≡ stepsOf (c - t) (riseOf b a) (riseOf b m) ⌝ }
 {
-    let low = logs::fixed_log2(b);
-    let f = factor(c - t, logs::fixed_log2(m) - low);
-    scaled(logs::fixed_log2(a) - low, f.r, f.s)
+    let l = line_of(b, m, t, c);
+    scaled(logs::fixed_log2(a) - l.low, l.r, l.s)
 }
 
 // The step of an envelope value in a segment.

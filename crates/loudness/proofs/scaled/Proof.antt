@@ -63,7 +63,7 @@ add-result c = omega (arith, word c)
 
 returns : tie.Need-returns
 unfolding scaled
-returns c = let n = c .args .n in let r = c .args .r in rw (upper n r (c .fits .r .fits), div-div-eq-div-mul (n * r) 4294967296 4294967296)
+returns c = let n = c .args .n in let r = c .args .r in (rw (upper n r (c .fits .r .fits), div-div-eq-div-mul (n * r) 4294967296 4294967296), omega (arith, word c))
 
 pub scaled-spec : {M : Type 1} → statement M
 scaled-spec = tie.close (tie.spec mul-p mul-p-2 add-p cast-result shr-result add-result returns)

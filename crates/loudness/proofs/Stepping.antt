@@ -1,0 +1,173 @@
+-- The promises of fitting and of stepping, joined from their pieces. Assumes nothing.
+use mathlib.Core.Path.{_≡_, refl, sym, ap, _∙_, subst}
+use mathlib.Core.Logic.{_⊎_, inl, inr}
+use mathlib.Core.List.{List, [], _∷_, _++_}
+use Prim.Native.Nat.{ℕ, zero, suc, _+_, _-_, _*_, _/_, _%_, _^_, _≤_, _<_}
+use native.Mathlib.Nat.{le-trans}
+use native.Mathlib.Omega.{arith}
+use lib.ListN.{length, getD, set, length-set}
+use lib.Ieee.{Float}
+use Rattle.units.specs.Answers.{Ends, itself}
+use Rattle.units.proofs.Answers.{written, untouched}
+use Rattle.loudness.specs.Map.{Channel, Envelope, Loudness}
+use Rattle.loudness.specs.Segment.{Segment, sizeBits}
+use Rattle.loudness.specs.Words.{Passes, BentPasses, stepIn, bentIn, sixWords, segmentWords}
+use Rattle.loudness.specs.Fitted.{fittedOf, fittedKnee, themselves, Fits, Changed, Step}
+use Rattle.loudness.proofs.Promise.{segment, promised, out-of-range}
+use Rattle.loudness.proofs.Bent as bends
+use Rattle.loudness.proofs.Bending.{knee-passes, same-bent, bent-bounded, changed-knee}
+use Rattle.loudness.proofs.Check.{changed-fails}
+use Rattle.loudness.proofs.Fitting.{segment-length, segment-passes, segment-words-few, same-step, bounded}
+
+-- how many words there are
+knee-length : (b k m : Float) (t s c : ℕ) → length (fittedKnee b k m t s c) ≡ 14
+unfolding segmentWords sixWords
+knee-length b k m t s c = refl
+
+changed-length : {words w : List ℕ} → Changed words w → length w ≡ length words
+changed-length {words} {w} h = ap length (h .changed) ∙ length-set words (h .place) (h .other)
+
+-- a segment with one word changed does not pass
+pub changed-segment : (b m : Float) (t c : ℕ) → Segment b m t c → {w : List ℕ} → Changed (segmentWords b m t c) w → Passes w → ⊥
+changed-segment b m t c sg {w} h p = changed-fails (segmentWords b m t c) w (segment-words-few b m t c sg) (segment-passes b m t c sg) h p
+
+-- ---- words of another number
+pub wrong-number : (w : List ℕ) (a : Float) → ¬ (length w ≡ 7) → ¬ (length w ≡ 14) → Step w a 2 0
+wrong-number w a n n′ = record {
+  bad-length = λ h k. refl;
+  straight = λ top b m t c ch e. absurd (n (ap length e ∙ segment-length b m t c));
+  bent = λ top b k m t s c ch e. absurd (n′ (ap length e ∙ knee-length b k m t s c));
+  changed-straight = λ top b m t c ch e. absurd (n (changed-length e ∙ segment-length b m t c));
+  changed-bent = λ top b k m t s c ch e. absurd (n′ (changed-length e ∙ knee-length b k m t s c));
+  out-of-range = λ h z. omega arith;
+  answered = λ h e. elim h [ inl l ↦ absurd (n l) | inr l ↦ absurd (n′ l) ];
+  at-least = λ z. absurd (omega arith);
+  at-most = λ z. absurd (omega arith);
+}
+
+-- ---- seven words
+module _ (w : List ℕ) (a : Float) (seven : length w ≡ 7) where
+  not-bent : length w ≡ 14 → ⊥
+  not-bent e = omega arith
+
+  fails : ¬ Passes w → Step w a 4 0
+  fails n = record {
+    bad-length = λ h k. absurd (h seven);
+    straight = λ top b m t c ch e. absurd (n (rw e (segment-passes b m t c (segment ch))));
+    bent = λ top b k m t s c ch e. absurd (not-bent (ap length e ∙ knee-length b k m t s c));
+    changed-straight = λ top b m t c ch e. refl;
+    changed-bent = λ top b k m t s c ch e. refl;
+    out-of-range = λ h z. omega arith;
+    answered = λ h e. inr refl;
+    at-least = λ z. absurd (omega arith);
+    at-most = λ z. absurd (omega arith);
+  }
+
+  module _ (p : Passes w) where
+    changed : (top : ℕ) (b m : Float) (t c : ℕ) → Channel top b m t c → Changed (fittedOf b m t c) w → ⊥
+    changed top b m t c ch e = changed-segment b m t c (segment ch) e p
+
+    refused : ¬ Envelope a → Step w a 1 0
+    refused n = record {
+      bad-length = λ h k. absurd (h seven);
+      straight = λ top b m t c ch e. out-of-range top b m t c a ch n;
+      bent = λ top b k m t s c ch e. absurd (not-bent (ap length e ∙ knee-length b k m t s c));
+      changed-straight = λ top b m t c ch e. absurd (changed top b m t c ch e);
+      changed-bent = λ top b k m t s c ch e. absurd (not-bent (changed-length e ∙ knee-length b k m t s c));
+      out-of-range = λ h z. omega arith;
+      answered = λ h e. absurd (n e);
+      at-least = λ z. absurd (omega arith);
+      at-most = λ z. absurd (omega arith);
+    }
+
+    stepped : Envelope a → Step w a 0 (stepIn w (sizeBits a))
+    stepped v = record {
+      bad-length = λ h k. absurd (h seven);
+      straight = λ top b m t c ch e. rw (e, same-step b m t c (segment ch) a v) (promised top b m t c ch a v);
+      bent = λ top b k m t s c ch e. absurd (not-bent (ap length e ∙ knee-length b k m t s c));
+      changed-straight = λ top b m t c ch e. absurd (changed top b m t c ch e);
+      changed-bent = λ top b k m t s c ch e. absurd (not-bent (changed-length e ∙ knee-length b k m t s c));
+      out-of-range = λ h z. h v;
+      answered = λ h e. inl refl;
+      at-least = λ z. bounded w (sizeBits a) (p .order) .0;
+      at-most = λ z. rw seven (bounded w (sizeBits a) (p .order) .1);
+    }
+
+-- ---- fourteen words
+module _ (w : List ℕ) (a : Float) (fourteen : length w ≡ 14) where
+  not-straight : length w ≡ 7 → ⊥
+  not-straight e = omega arith
+
+  bent-fails : ¬ BentPasses w → Step w a 4 0
+  bent-fails n = record {
+    bad-length = λ h k. absurd (k fourteen);
+    straight = λ top b m t c ch e. absurd (not-straight (ap length e ∙ segment-length b m t c));
+    bent = λ top b k m t s c ch e. absurd (n (rw e (knee-passes top b k m t s c ch)));
+    changed-straight = λ top b m t c ch e. refl;
+    changed-bent = λ top b k m t s c ch e. refl;
+    out-of-range = λ h z. omega arith;
+    answered = λ h e. inr refl;
+    at-least = λ z. absurd (omega arith);
+    at-most = λ z. absurd (omega arith);
+  }
+
+  module _ (p : BentPasses w) where
+    bent-refused : ¬ Envelope a → Step w a 1 0
+    bent-refused n = record {
+      bad-length = λ h k. absurd (k fourteen);
+      straight = λ top b m t c ch e. absurd (not-straight (ap length e ∙ segment-length b m t c));
+      bent = λ top b k m t s c ch e. bends.out-of-range top b k m t s c a ch n;
+      changed-straight = λ top b m t c ch e. absurd (not-straight (changed-length e ∙ segment-length b m t c));
+      changed-bent = λ top b k m t s c ch e. absurd (changed-knee top b k m t s c ch w e p);
+      out-of-range = λ h z. omega arith;
+      answered = λ h e. absurd (n e);
+      at-least = λ z. absurd (omega arith);
+      at-most = λ z. absurd (omega arith);
+    }
+
+    bent-stepped : Envelope a → Step w a 0 (bentIn w (sizeBits a))
+    bent-stepped v = record {
+      bad-length = λ h k. absurd (k fourteen);
+      straight = λ top b m t c ch e. absurd (not-straight (ap length e ∙ segment-length b m t c));
+      bent = λ top b k m t s c ch e. rw (e, same-bent top b k m t s c ch a v) (bends.kept top b k m t s c ch a v);
+      changed-straight = λ top b m t c ch e. absurd (not-straight (changed-length e ∙ segment-length b m t c));
+      changed-bent = λ top b k m t s c ch e. absurd (changed-knee top b k m t s c ch w e p);
+      out-of-range = λ h z. h v;
+      answered = λ h e. inl refl;
+      at-least = λ z. bent-bounded w (sizeBits a) p .0;
+      at-most = λ z. rw fourteen (bent-bounded w (sizeBits a) p .1);
+    }
+
+-- ---- how a call of `step` ends
+module _ (w : List ℕ) (a : Float) {before : ℕ} where
+  pub no-number : ¬ (length w ≡ 7) → ¬ (length w ≡ 14) → Ends itself (Step w a) 2 before before
+  no-number n n′ = untouched 2 0 (λ z. omega arith) (wrong-number w a n n′)
+
+  pub no-pass : length w ≡ 7 → ¬ Passes w → Ends itself (Step w a) 4 before before
+  no-pass s n = untouched 4 0 (λ z. omega arith) (fails w a s n)
+
+  pub no-envelope : length w ≡ 7 → Passes w → ¬ Envelope a → Ends itself (Step w a) 1 before before
+  no-envelope s p n = untouched 1 0 (λ z. omega arith) (refused w a s p n)
+
+  pub answer : {after : ℕ} → length w ≡ 7 → Passes w → Envelope a → after ≡ stepIn w (sizeBits a) → Ends itself (Step w a) 0 before after
+  answer s p v e = written (stepIn w (sizeBits a)) (stepped w a s p v) e
+
+  pub no-bent-pass : length w ≡ 14 → ¬ BentPasses w → Ends itself (Step w a) 4 before before
+  no-bent-pass s n = untouched 4 0 (λ z. omega arith) (bent-fails w a s n)
+
+  pub no-bent-envelope : length w ≡ 14 → BentPasses w → ¬ Envelope a → Ends itself (Step w a) 1 before before
+  no-bent-envelope s p n = untouched 1 0 (λ z. omega arith) (bent-refused w a s p n)
+
+  pub bent-answer : {after : ℕ} → length w ≡ 14 → BentPasses w → Envelope a → after ≡ bentIn w (sizeBits a) → Ends itself (Step w a) 0 before after
+  bent-answer s p v e = written (bentIn w (sizeBits a)) (bent-stepped w a s p v) e
+
+-- ---- how a call of `fit` or `fit_knee` ends
+module _ {Good : Type 0} {words : List ℕ} {n : ℕ} {before : List ℕ} where
+  pub other-number : ¬ (length before ≡ n) → Ends themselves (Fits Good words n (length before)) 2 before before
+  other-number h = untouched 2 [] (λ z. omega arith) (record { bad-length = λ k. refl; bad-channel = λ k. absurd (h k); success = λ k. absurd (h k); value = λ k. absurd (h k) })
+
+  pub no-channel : length before ≡ n → ¬ Good → Ends themselves (Fits Good words n (length before)) 4 before before
+  no-channel s g = untouched 4 [] (λ z. omega arith) (record { bad-length = λ k. absurd (k s); bad-channel = λ k h. refl; success = λ k h. absurd (g h); value = λ k h. absurd (g h) })
+
+  pub fitted : {after : List ℕ} → length before ≡ n → Good → after ≡ words → Ends themselves (Fits Good words n (length before)) 0 before after
+  fitted s g e = written words (record { bad-length = λ k. absurd (k s); bad-channel = λ k h. absurd (h g); success = λ k h. refl; value = λ k h. refl }) e
