@@ -5,17 +5,18 @@ use mathlib.Core.List.{List, [], _∷_, _++_}
 use Prim.Native.Nat.{ℕ, zero, suc, _+_, _-_, _*_, _/_, _%_, _^_, _≤_, _<_}
 use native.Mathlib.Nat.{le-trans}
 use native.Mathlib.Omega.{arith}
-use lib.ListN.{length, getD, set, length-set}
+use lib.ListN.{length, getD, set, take, drop, length-set}
 use lib.Ieee.{Float}
 use Rattle.units.specs.Answers.{Ends, itself}
 use Rattle.units.proofs.Answers.{written, untouched}
+use Rattle.units.proofs.Naturals.{le-or-lt}
 use Rattle.loudness.specs.Map.{Channel, Envelope, Loudness}
-use Rattle.loudness.specs.Segment.{Segment, sizeBits}
-use Rattle.loudness.specs.Words.{Passes, BentPasses, stepIn, bentIn, sixWords, segmentWords}
+use Rattle.loudness.specs.Segment.{Segment, Levelled, sizeBits}
+use Rattle.loudness.specs.Words.{Passes, BentPasses, Answered, stepIn, bentIn, sixWords, segmentWords}
 use Rattle.loudness.specs.Fitted.{fittedOf, fittedKnee, themselves, Fits, Changed, Step}
 use Rattle.loudness.proofs.Promise.{segment, promised, out-of-range}
 use Rattle.loudness.proofs.Bent as bends
-use Rattle.loudness.proofs.Bending.{knee-passes, same-bent, bent-bounded, changed-knee}
+use Rattle.loudness.proofs.Bending.{bent-below, bent-above, knee-passes, same-bent, bent-bounded, changed-knee}
 use Rattle.loudness.proofs.Check.{changed-fails}
 use Rattle.loudness.proofs.Fitting.{segment-length, segment-passes, segment-words-few, same-step, bounded}
 
@@ -50,8 +51,8 @@ module _ (w : List ℕ) (a : Float) (seven : length w ≡ 7) where
   not-bent : length w ≡ 14 → ⊥
   not-bent e = omega arith
 
-  fails : ¬ Passes w → Step w a 4 0
-  fails n = record {
+  fails : (i : ℕ) → ¬ Passes w → Step w a 4 i
+  fails i n = record {
     bad-length = λ h k. absurd (h seven);
     straight = λ top b m t c ch e. absurd (n (rw e (segment-passes b m t c (segment ch))));
     bent = λ top b k m t s c ch e. absurd (not-bent (ap length e ∙ knee-length b k m t s c));
@@ -67,10 +68,10 @@ module _ (w : List ℕ) (a : Float) (seven : length w ≡ 7) where
     changed : (top : ℕ) (b m : Float) (t c : ℕ) → Channel top b m t c → Changed (fittedOf b m t c) w → ⊥
     changed top b m t c ch e = changed-segment b m t c (segment ch) e p
 
-    refused : ¬ Envelope a → Step w a 1 0
-    refused n = record {
+    refused : (i : ℕ) → ¬ Envelope a → Step w a 1 i
+    refused i n = record {
       bad-length = λ h k. absurd (h seven);
-      straight = λ top b m t c ch e. out-of-range top b m t c a ch n;
+      straight = λ top b m t c ch e. out-of-range top b m t c a i ch n;
       bent = λ top b k m t s c ch e. absurd (not-bent (ap length e ∙ knee-length b k m t s c));
       changed-straight = λ top b m t c ch e. absurd (changed top b m t c ch e);
       changed-bent = λ top b k m t s c ch e. absurd (not-bent (changed-length e ∙ knee-length b k m t s c));
@@ -112,11 +113,11 @@ module _ (w : List ℕ) (a : Float) (fourteen : length w ≡ 14) where
   }
 
   module _ (p : BentPasses w) where
-    bent-refused : ¬ Envelope a → Step w a 1 0
-    bent-refused n = record {
+    bent-refused : (i : ℕ) → ¬ Envelope a → Step w a 1 i
+    bent-refused i n = record {
       bad-length = λ h k. absurd (k fourteen);
       straight = λ top b m t c ch e. absurd (not-straight (ap length e ∙ segment-length b m t c));
-      bent = λ top b k m t s c ch e. bends.out-of-range top b k m t s c a ch n;
+      bent = λ top b k m t s c ch e. bends.out-of-range top b k m t s c a i ch n;
       changed-straight = λ top b m t c ch e. absurd (not-straight (changed-length e ∙ segment-length b m t c));
       changed-bent = λ top b k m t s c ch e. absurd (changed-knee top b k m t s c ch w e p);
       out-of-range = λ h z. omega arith;
@@ -143,23 +144,43 @@ module _ (w : List ℕ) (a : Float) {before : ℕ} where
   pub no-number : ¬ (length w ≡ 7) → ¬ (length w ≡ 14) → Ends itself (Step w a) 2 before before
   no-number n n′ = untouched 2 0 (λ z. omega arith) (wrong-number w a n n′)
 
-  pub no-pass : length w ≡ 7 → ¬ Passes w → Ends itself (Step w a) 4 before before
-  no-pass s n = untouched 4 0 (λ z. omega arith) (fails w a s n)
-
-  pub no-envelope : length w ≡ 7 → Passes w → ¬ Envelope a → Ends itself (Step w a) 1 before before
-  no-envelope s p n = untouched 1 0 (λ z. omega arith) (refused w a s p n)
-
-  pub answer : {after : ℕ} → length w ≡ 7 → Passes w → Envelope a → after ≡ stepIn w (sizeBits a) → Ends itself (Step w a) 0 before after
-  answer s p v e = written (stepIn w (sizeBits a)) (stepped w a s p v) e
-
   pub no-bent-pass : length w ≡ 14 → ¬ BentPasses w → Ends itself (Step w a) 4 before before
   no-bent-pass s n = untouched 4 0 (λ z. omega arith) (bent-fails w a s n)
 
-  pub no-bent-envelope : length w ≡ 14 → BentPasses w → ¬ Envelope a → Ends itself (Step w a) 1 before before
-  no-bent-envelope s p n = untouched 1 0 (λ z. omega arith) (bent-refused w a s p n)
+-- the level of an envelope value
+level-of : (a : Float) (p : ℕ) → Levelled a p → Envelope a → p ≡ sizeBits a
+level-of a p l e = elim (le-or-lt p 1065353216) [ inl h ↦ l .inside h .1 | inr h ↦ absurd (l .outside h e) ]
 
-  pub bent-answer : {after : ℕ} → length w ≡ 14 → BentPasses w → Envelope a → after ≡ bentIn w (sizeBits a) → Ends itself (Step w a) 0 before after
-  bent-answer s p v e = written (bentIn w (sizeBits a)) (bent-stepped w a s p v) e
+-- as the words of a segment are answered
+step-of : (w : List ℕ) (a : Float) (code i : ℕ) → length w ≡ 7 → Answered w a code i → Step w a code i
+step-of w a code i s h =
+    elim (h .how) [
+      | inl (e, n) ↦ rw e (fails w a s i n)
+      | inr (inl (e, p, n)) ↦ rw e (refused w a s p i n)
+      | inr (inr (e, p, v, g)) ↦ rw (e, g) (stepped w a s p v)
+    ]
+
+-- of a bent channel's words, those of the half in which the value lies
+bent-step-of : (w v : List ℕ) (a : Float) (code i : ℕ) → length w ≡ 14 → BentPasses w → Passes v → (Envelope a → bentIn w (sizeBits a) ≡ stepIn v (sizeBits a)) → Answered v a code i → Step w a code i
+bent-step-of w v a code i s p q lies h =
+    elim (h .how) [
+      | inl (e, n) ↦ absurd (n q)
+      | inr (inl (e, r, n)) ↦ rw e (bent-refused w a s p i n)
+      | inr (inr (e, r, u, g)) ↦ rw (e, g ∙ sym (lies u)) (bent-stepped w a s p u)
+    ]
+
+module _ {a : Float} {code before after : ℕ} where
+  pub as-straight : (w : List ℕ) → length w ≡ 7 → Ends itself (Answered w a) code before after → Ends itself (Step w a) code before after
+  as-straight w s e = record { result = e .result; promise = step-of w a code (e .result) s (e .promise); written = e .written; kept = e .kept }
+
+  as-half : (w v : List ℕ) → length w ≡ 14 → BentPasses w → Passes v → (Envelope a → bentIn w (sizeBits a) ≡ stepIn v (sizeBits a)) → Ends itself (Answered v a) code before after → Ends itself (Step w a) code before after
+  as-half w v s p q lies e = record { result = e .result; promise = bent-step-of w v a code (e .result) s p q lies (e .promise); written = e .written; kept = e .kept }
+
+  pub as-lower : (w : List ℕ) (p : ℕ) → length w ≡ 14 → BentPasses w → Levelled a p → p ≤ getD w 1 0 → Ends itself (Answered (take 7 w) a) code before after → Ends itself (Step w a) code before after
+  as-lower w p s b l h e = as-half w (take 7 w) s b (b .lower) (λ u. bent-below w (sizeBits a) (rw (level-of a p l u) at h)) e
+
+  pub as-upper : (w : List ℕ) (p : ℕ) → length w ≡ 14 → BentPasses w → Levelled a p → getD w 1 0 < p → Ends itself (Answered (drop 7 w) a) code before after → Ends itself (Step w a) code before after
+  as-upper w p s b l h e = as-half w (drop 7 w) s b (b .upper) (λ u. bent-above w (sizeBits a) (rw (level-of a p l u) at h)) e
 
 -- ---- how a call of `fit` or `fit_knee` ends
 module _ {Good : Type 0} {words : List ℕ} {n : ℕ} {before : List ℕ} where

@@ -1,6 +1,7 @@
 -- The words of a fitted segment, and the step that they give. A reader of the promise need not read this: Fitted names `segmentWords` and says all that is promised
 -- of it. Definitions only.
 use mathlib.Core.Path.{_≡_}
+use mathlib.Core.Logic.{_⊎_}
 use mathlib.Core.Bool.{cond}
 use mathlib.Core.List.{List, [], _∷_}
 use Prim.Native.Nat.{ℕ, _+_, _-_, _*_, _/_, _%_, _^_, _≤_}
@@ -9,6 +10,8 @@ use lib.ListN.{getD, take, drop}
 use lib.Ieee.{Float, binary32, toBits}
 use Rattle.logs.specs.Value.{fixedBits, fixedOf}
 use Rattle.loudness.specs.Value.{riseOf, factorOf, shiftOf, scaled}
+use Rattle.loudness.specs.Map.{Envelope}
+use Rattle.loudness.specs.Segment.{sizeBits}
 
 -- ---- any seven words: the patterns of b and m, the steps and the shift, minus the logarithm of b (the lower word first), the factor, and the check
 abbrev pub thresholdOf : ℕ → ℕ
@@ -44,6 +47,10 @@ stepIn w p =
     cond (leb p (getD w 0 0)) (thresholdOf (getD w 2 0))
     (cond (leb (getD w 1 0) p) (comfortOf (getD w 2 0))
     (cond (leb (comfortOf (getD w 2 0)) (betweenIn w p)) (comfortOf (getD w 2 0)) (betweenIn w p)))
+
+-- how seven words are answered: code 4 where they do not pass, else code 1 where a is no envelope value, else code 0 and the step
+pub record Answered (w : List ℕ) (a : Float) (code i : ℕ) : Type 0 where
+  pub how : ((code ≡ 4) × ¬ Passes w) ⊎ (((code ≡ 1) × Passes w × ¬ Envelope a) ⊎ ((code ≡ 0) × Passes w × Envelope a × (i ≡ stepIn w (sizeBits a))))
 
 -- ---- two segments: the words of each pass, and the upper one begins no lower than the lower one ends
 pub record BentPasses (w : List ℕ) : Type 0 where

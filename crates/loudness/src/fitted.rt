@@ -8,7 +8,7 @@ ghost use Rattle.units.specs.Answers.{Ends, itself};
 ghost use Rattle.units.specs.Tests.{Tells};
 ghost use Rattle.loudness.specs.Map.{Envelope};
 ghost use Rattle.loudness.specs.Segment.{Segment, Levelled};
-ghost use Rattle.loudness.specs.Words.{Passes, BentPasses, stepIn, bentIn, sixWords, segmentWords};
+ghost use Rattle.loudness.specs.Words.{Passes, BentPasses, Answered, stepIn, sixWords, segmentWords};
 ghost use Rattle.loudness.specs.Fitted.{themselves, Fit, FitKnee, Step};
 
 // What the words of a segment sum to, modulo 2^32.
@@ -91,15 +91,34 @@ fn bent_passes(w: &[u32]) -> bool
     false
 }
 
-// The step of a pattern by the words of two segments: of the one in which it lies.
-fn bent_step_in(w: &[u32], p: u32) -> u32
-    requires { ⌜ (length (now w) ≡ 14) × (p < 2 ^ 31) ⌝ }
-    ensures { λ r. ⌜ r ≡ bentIn (now (w .entry)) p ⌝ }
+// The step of an envelope value by the words of a segment; code 4 where they do not pass, code 1 where a is no envelope value.
+fn straight(w: &[u32], a: f32, out: &mut u32) -> u32
+    requires { ⌜ length (now w) ≡ 7 ⌝ }
+    ensures { λ code. ⌜ Ends itself (Answered (now (w .entry)) a) code (now (out .entry)) (now (out .exit)) ⌝ }
 {
-    if p <= w[1] {
-        return step_in(&w[..7], p);
+    if passes(w) {
+        let p = level(a);
+        if p <= 0x3f80_0000 {
+            *out = step_in(w, p);
+            return 0;
+        }
+        return 1;
     }
-    step_in(&w[7..], p)
+    4
+}
+
+// By the words of two segments: by those of the one in which the value lies.
+fn bent(w: &[u32], a: f32, out: &mut u32) -> u32
+    requires { ⌜ length (now w) ≡ 14 ⌝ }
+    ensures { λ code. ⌜ Ends itself (Step (now (w .entry)) a) code (now (out .entry)) (now (out .exit)) ⌝ }
+{
+    if bent_passes(w) {
+        if level(a) <= w[1] {
+            return straight(&w[..7], a, out);
+        }
+        return straight(&w[7..], a, out);
+    }
+    4
 }
 
 // The step of an envelope value by the words of a fitted channel; code 2 for another number of words, code 4 where a check does not hold or steps are
@@ -108,36 +127,12 @@ pub fn step(w: &[u32], a: f32, out: &mut u32) -> u32
     ensures { λ code. ⌜ Ends itself (Step (now (w .entry)) a) code (now (out .entry)) (now (out .exit)) ⌝ }
 {
     if w.len() == 7 {
-        if passes(w) {
-            let p = level(a);
-            if p <= 0x3f80_0000 {
-                *out = step_in(w, p);
-                return 0;
-            }
-            return 1;
-        }
-        return 4;
+        return straight(w, a, out);
     }
     if w.len() == 14 {
         return bent(w, a, out);
     }
     2
-}
-
-// The same of the words of a bent channel.
-fn bent(w: &[u32], a: f32, out: &mut u32) -> u32
-    requires { ⌜ length (now w) ≡ 14 ⌝ }
-    ensures { λ code. ⌜ Ends itself (Step (now (w .entry)) a) code (now (out .entry)) (now (out .exit)) ⌝ }
-{
-    if bent_passes(w) {
-        let p = level(a);
-        if p <= 0x3f80_0000 {
-            *out = bent_step_in(w, p);
-            return 0;
-        }
-        return 1;
-    }
-    4
 }
 
 // Six words and their check.
