@@ -29,7 +29,7 @@ enum evenly { OVER_PATTERNS, OVER_VALUES, IN_LISTS };
 #define EVERY_ANGLE {"-8192 <= x <= 8192", OVER_VALUES, -8192, 8192, 0}
 #define AROUND_ZERO {"-1 <= x <= 1", OVER_VALUES, -1, 1, 0}
 #define BETWEEN {"a from b to m", OVER_PATTERNS, 0.001f, 0.316227766f, 0}
-#define BETWEEN_FITTED {"a from b to m; C fitted", OVER_PATTERNS, 0.001f, 0.316227766f, 0}
+#define BETWEEN_FITTED {"a from b to m; both fitted", OVER_PATTERNS, 0.001f, 0.316227766f, 0}
 #define CHANNEL 0.001f, 0.316227766f, 100, 200
 #define LISTS_OF(n) {"n = " #n, IN_LISTS, -4, 4, n}
 
@@ -53,10 +53,11 @@ enum evenly { OVER_PATTERNS, OVER_VALUES, IN_LISTS };
     LINE(softmax, ear_softmax2, ear_softmax2(list, length, out, length), "softmax_in_c", softmax_in_c(list, length, out), \
          LISTS_OF(64)) \
     LINE(loudness_map, ear_loudness, ear_loudness(CHANNEL, x, &step), "map_in_c", map_in_c(CHANNEL, x, &step), BETWEEN) \
-    LINE(fitted_map, ear_loudness, ear_loudness(CHANNEL, x, &step), "fitted_in_c", fitted_in_c(x, &step), \
+    LINE(fitted_map, ear_step, ear_step(fitted, EAR_FITTED_WORDS, x, &step), "fitted_in_c", fitted_in_c(x, &step), \
          BETWEEN_FITTED)
 
 static float list[LONGEST], other[LONGEST], out[LONGEST];
+static uint32_t fitted[EAR_FITTED_WORDS];
 static uint32_t length;
 static volatile float y_sink;
 
@@ -196,6 +197,7 @@ int main(void)
     *(volatile uint32_t *)0x40000008 = 0xffffffff; /* the timer's reload */
     *(volatile uint32_t *)0x40000000 = 1;
     fit_in_c(CHANNEL);
+    ear_fit(255, CHANNEL, fitted, EAR_FITTED_WORDS);
     for (int i = 0; i < CONTESTS_HELD; i++)
         for (int who = 0; who < 2; who++) {
             (TRACE ? traced : held)(&contests[i], who);
