@@ -3,16 +3,16 @@ use mathlib.Core.Path.{_≡_, refl, sym, ap, _∙_, subst}
 use mathlib.Core.Logic.{_⊎_, inl, inr}
 use mathlib.Core.List.{List, [], _∷_, _++_}
 use Prim.Native.Nat.{ℕ, zero, suc, _+_, _-_, _*_, _/_, _%_, _^_, _≤_, _<_}
-use native.Mathlib.Nat.{le-trans}
+use native.Mathlib.Nat.{le-of-eq}
 use native.Mathlib.Omega.{arith}
-use lib.ListN.{length, getD, set, take, drop, length-set}
+use lib.ListN.{length, getD, set, take, drop, length-set, length-drop}
+use lib.Seq.{take-all, length-take-le}
 use lib.Ieee.{Float}
 use Rattle.units.specs.Answers.{Ends, itself}
 use Rattle.units.proofs.Answers.{written, untouched}
-use Rattle.units.proofs.Naturals.{le-or-lt}
 use Rattle.loudness.specs.Map.{Channel, Envelope, Loudness}
-use Rattle.loudness.specs.Segment.{Segment, Levelled, sizeBits}
-use Rattle.loudness.specs.Words.{Passes, BentPasses, Answered, stepIn, bentIn, sixWords, segmentWords}
+use Rattle.loudness.specs.Segment.{Segment, sizeBits}
+use Rattle.loudness.specs.Words.{Passes, BentPasses, Answered, Chosen, stepIn, bentIn, sixWords, segmentWords}
 use Rattle.loudness.specs.Fitted.{fittedOf, fittedKnee, themselves, Fits, Changed, Step}
 use Rattle.loudness.proofs.Promise.{segment, promised, out-of-range}
 use Rattle.loudness.proofs.Bent as bends
@@ -147,10 +147,6 @@ module _ (w : List ℕ) (a : Float) {before : ℕ} where
   pub no-bent-pass : length w ≡ 14 → ¬ BentPasses w → Ends itself (Step w a) 4 before before
   no-bent-pass s n = untouched 4 0 (λ z. omega arith) (bent-fails w a s n)
 
--- the level of an envelope value
-level-of : (a : Float) (p : ℕ) → Levelled a p → Envelope a → p ≡ sizeBits a
-level-of a p l e = elim (le-or-lt p 1065353216) [ inl h ↦ l .inside h .1 | inr h ↦ absurd (l .outside h e) ]
-
 -- as the words of a segment are answered
 step-of : (w : List ℕ) (a : Float) (code i : ℕ) → length w ≡ 7 → Answered w a code i → Step w a code i
 step-of w a code i s h =
@@ -170,17 +166,65 @@ bent-step-of w v a code i s p q lies h =
     ]
 
 module _ {a : Float} {code before after : ℕ} where
-  pub as-straight : (w : List ℕ) → length w ≡ 7 → Ends itself (Answered w a) code before after → Ends itself (Step w a) code before after
+  as-straight : (w : List ℕ) → length w ≡ 7 → Ends itself (Answered w a) code before after → Ends itself (Step w a) code before after
   as-straight w s e = record { result = e .result; promise = step-of w a code (e .result) s (e .promise); written = e .written; kept = e .kept }
 
   as-half : (w v : List ℕ) → length w ≡ 14 → BentPasses w → Passes v → (Envelope a → bentIn w (sizeBits a) ≡ stepIn v (sizeBits a)) → Ends itself (Answered v a) code before after → Ends itself (Step w a) code before after
   as-half w v s p q lies e = record { result = e .result; promise = bent-step-of w v a code (e .result) s p q lies (e .promise); written = e .written; kept = e .kept }
 
-  pub as-lower : (w : List ℕ) (p : ℕ) → length w ≡ 14 → BentPasses w → Levelled a p → p ≤ getD w 1 0 → Ends itself (Answered (take 7 w) a) code before after → Ends itself (Step w a) code before after
-  as-lower w p s b l h e = as-half w (take 7 w) s b (b .lower) (λ u. bent-below w (sizeBits a) (rw (level-of a p l u) at h)) e
+  -- the words that were chosen
+  pub as-chosen : (w : List ℕ) (at : ℕ) → Chosen w a at → at ≤ 7 → Ends itself (Answered (take (at + 7 - at) (drop at w)) a) code before after → Ends itself (Step w a) code before after
+  as-chosen w at ch l x =
+      elim (ch .how) [
+        | inl (e, n, n′) ↦ absurd (omega arith)
+        | inr (inl (e, s, n)) ↦ absurd (omega arith)
+        | inr (inr (inl (e, s))) ↦ as-straight w s (rw (take-all 7 w (le-of-eq s)) at (at-start e))
+        | inr (inr (inr (inl (e, (s, p, h))))) ↦ as-half w (take 7 w) s p (p .lower) (λ u. bent-below w (sizeBits a) (h u)) (at-start e)
+        | inr (inr (inr (inr (e, (s, p, h))))) ↦ as-half w (drop 7 w) s p (p .upper) (λ u. bent-above w (sizeBits a) (h u)) (rw (take-all 7 (drop 7 w) (le-of-eq (length-drop 7 w ∙ ap (λ (n : ℕ). n - 7) s))) at (at-half e))
+      ]
+    where
+      at-start : at ≡ 0 → Ends itself (Answered (take 7 w) a) code before after
+      at-start e = subst (λ (i : ℕ). Ends itself (Answered (take (i + 7 - i) (drop i w)) a) code before after) e x
 
-  pub as-upper : (w : List ℕ) (p : ℕ) → length w ≡ 14 → BentPasses w → Levelled a p → getD w 1 0 < p → Ends itself (Answered (drop 7 w) a) code before after → Ends itself (Step w a) code before after
-  as-upper w p s b l h e = as-half w (drop 7 w) s b (b .upper) (λ u. bent-above w (sizeBits a) (rw (level-of a p l u) at h)) e
+      at-half : at ≡ 7 → Ends itself (Answered (take 7 (drop 7 w)) a) code before after
+      at-half e = subst (λ (i : ℕ). Ends itself (Answered (take (i + 7 - i) (drop i w)) a) code before after) e x
+
+-- they are seven
+module _ (w : List ℕ) (a : Float) (at : ℕ) (ch : Chosen w a at) (l : at ≤ 7) where
+  pub chosen-fits : at + 7 ≤ length w
+  chosen-fits =
+      elim (ch .how) [
+        | inl (e, n, n′) ↦ absurd (omega arith)
+        | inr (inl (e, s, n)) ↦ absurd (omega arith)
+        | inr (inr (inl (e, s))) ↦ omega arith
+        | inr (inr (inr (inl (e, (s, p, h))))) ↦ omega arith
+        | inr (inr (inr (inr (e, (s, p, h))))) ↦ omega arith
+      ]
+
+  pub chosen-seven : length (take (at + 7 - at) (drop at w)) ≡ 7
+  chosen-seven = let f = chosen-fits in length-take-le (at + 7 - at) (drop at w) (rw (length-drop at w) (omega arith)) ∙ omega arith
+
+-- what else was found
+module _ (w : List ℕ) (a : Float) (at : ℕ) (ch : Chosen w a at) {before : ℕ} where
+  pub as-other : at ≡ 8 → Ends itself (Step w a) 2 before before
+  as-other z =
+      elim (ch .how) [
+        | inl (e, n, n′) ↦ no-number w a n n′
+        | inr (inl (e, s, n)) ↦ absurd (omega arith)
+        | inr (inr (inl (e, s))) ↦ absurd (omega arith)
+        | inr (inr (inr (inl (e, (s, p, h))))) ↦ absurd (omega arith)
+        | inr (inr (inr (inr (e, (s, p, h))))) ↦ absurd (omega arith)
+      ]
+
+  pub as-failed : 7 < at → ¬ (at ≡ 8) → Ends itself (Step w a) 4 before before
+  as-failed l z =
+      elim (ch .how) [
+        | inl (e, n, n′) ↦ absurd (z e)
+        | inr (inl (e, s, n)) ↦ no-bent-pass w a s n
+        | inr (inr (inl (e, s))) ↦ absurd (omega arith)
+        | inr (inr (inr (inl (e, (s, p, h))))) ↦ absurd (omega arith)
+        | inr (inr (inr (inr (e, (s, p, h))))) ↦ absurd (omega arith)
+      ]
 
 -- ---- how a call of `fit` or `fit_knee` ends
 module _ {Good : Type 0} {words : List ℕ} {n : ℕ} {before : List ℕ} where

@@ -4,9 +4,9 @@ use mathlib.Core.Path.{_≡_}
 use mathlib.Core.Logic.{_⊎_}
 use mathlib.Core.Bool.{cond}
 use mathlib.Core.List.{List, [], _∷_}
-use Prim.Native.Nat.{ℕ, _+_, _-_, _*_, _/_, _%_, _^_, _≤_}
+use Prim.Native.Nat.{ℕ, _+_, _-_, _*_, _/_, _%_, _^_, _≤_, _<_}
 use lib.Dec.{leb}
-use lib.ListN.{getD, take, drop}
+use lib.ListN.{length, getD, take, drop}
 use lib.Ieee.{Float, binary32, toBits}
 use Rattle.logs.specs.Value.{fixedBits, fixedOf}
 use Rattle.loudness.specs.Value.{riseOf, factorOf, shiftOf, scaled}
@@ -61,6 +61,17 @@ pub record BentPasses (w : List ℕ) : Type 0 where
 -- the step of the pattern p: by the lower one up to the knee
 unfoldable pub bentIn : List ℕ → ℕ → ℕ
 bentIn w p = cond (leb p (getD w 1 0)) (stepIn (take 7 w) p) (stepIn (drop 7 w) p)
+
+-- where the words begin that answer a: of seven words at 0; of two segments at 0 or 7, the one in which a lies; 8 for another number of words, 9 where the segments do not pass
+abbrev pub Lower : List ℕ → Float → Type 0
+Lower w a = (length w ≡ 14) × BentPasses w × (Envelope a → sizeBits a ≤ getD w 1 0)
+
+abbrev pub Upper : List ℕ → Float → Type 0
+Upper w a = (length w ≡ 14) × BentPasses w × (Envelope a → getD w 1 0 < sizeBits a)
+
+pub record Chosen (w : List ℕ) (a : Float) (at : ℕ) : Type 0 where
+  pub how : ((at ≡ 8) × ¬ (length w ≡ 7) × ¬ (length w ≡ 14))
+      ⊎ (((at ≡ 9) × (length w ≡ 14) × ¬ BentPasses w) ⊎ (((at ≡ 0) × (length w ≡ 7)) ⊎ (((at ≡ 0) × Lower w a) ⊎ ((at ≡ 7) × Upper w a))))
 
 -- ---- the words of a segment
 unfoldable pub stepsWord : (b m : Float) (t c : ℕ) → ℕ

@@ -8,7 +8,7 @@ ghost use Rattle.units.specs.Answers.{Ends, itself};
 ghost use Rattle.units.specs.Tests.{Tells};
 ghost use Rattle.loudness.specs.Map.{Envelope};
 ghost use Rattle.loudness.specs.Segment.{Segment, Levelled};
-ghost use Rattle.loudness.specs.Words.{Passes, BentPasses, Answered, stepIn, sixWords, segmentWords};
+ghost use Rattle.loudness.specs.Words.{Passes, BentPasses, Answered, Chosen, stepIn, sixWords, segmentWords};
 ghost use Rattle.loudness.specs.Fitted.{themselves, Fit, FitKnee, Step};
 
 // What the words of a segment sum to, modulo 2^32.
@@ -107,32 +107,39 @@ fn straight(w: &[u32], a: f32, out: &mut u32) -> u32
     4
 }
 
-// By the words of two segments: by those of the one in which the value lies.
-fn bent(w: &[u32], a: f32, out: &mut u32) -> u32
-    requires { ⌜ length (now w) ≡ 14 ⌝ }
-    ensures { λ code. ⌜ Ends itself (Step (now (w .entry)) a) code (now (out .entry)) (now (out .exit)) ⌝ }
+// Where the words of the segment begin in which the value lies: 0 or 7; and 8 where there are neither 7 words nor 14, 9 where two segments do not pass.
+fn chosen(w: &[u32], a: f32) -> usize
+    ensures { λ at. ⌜ Chosen (now (w .entry)) a at ⌝ }
 {
-    if bent_passes(w) {
-        if level(a) <= w[1] {
-            return straight(&w[..7], a, out);
-        }
-        return straight(&w[7..], a, out);
+    if w.len() == 7 {
+        return 0;
     }
-    4
+    if w.len() == 14 {
+        if bent_passes(w) {
+            if level(a) <= w[1] {
+                return 0;
+            }
+            return 7;
+        }
+        return 9;
+    }
+    8
 }
 
 // The step of an envelope value by the words of a fitted channel; code 2 for another number of words, code 4 where a check does not hold or steps are
-// out of order, code 1 where a is no envelope value.
+// out of order, code 1 where a is no envelope value. The words of a segment are answered in one place, so that the compiler has them there.
 pub fn step(w: &[u32], a: f32, out: &mut u32) -> u32
     ensures { λ code. ⌜ Ends itself (Step (now (w .entry)) a) code (now (out .entry)) (now (out .exit)) ⌝ }
 {
-    if w.len() == 7 {
-        return straight(w, a, out);
+    let at = chosen(w, a);
+    if at <= 7 {
+        let end = at + 7;
+        return straight(&w[at..end], a, out);
     }
-    if w.len() == 14 {
-        return bent(w, a, out);
+    if at == 8 {
+        return 2;
     }
-    2
+    4
 }
 
 // Six words and their check.
