@@ -4,9 +4,9 @@ ghost use lib.ListN.{length};
 ghost use Rattle.units.specs.Answers.{Ends, floatBits, listBits, itself};
 ghost use Rattle.roots.specs.Sqrt.{Sqrt};
 ghost use Rattle.roots.specs.Rsqrt.{Rsqrt};
-ghost use Rattle.loudness.specs.Map.{Loudness};
-ghost use Rattle.loudness.specs.Knee.{LoudnessKnee};
-ghost use Rattle.loudness.specs.Fitted.{themselves, Fit, FitKnee, Step};
+ghost use Rattle.loudness.specs.Map.{Channel, Loudness};
+ghost use Rattle.loudness.specs.Knee.{BentChannel, LoudnessKnee};
+ghost use Rattle.loudness.specs.Fitted.{straightWords, bentWords, themselves, fittedOf, fittedKnee, Fits, Step};
 ghost use Rattle.powers.specs.Exp2.{Exp2};
 ghost use Rattle.logs.specs.Log2.{Log2};
 ghost use Rattle.circle.specs.Promise.{SinPi, CosPi, Sin, Cos};
@@ -148,7 +148,7 @@ pub extern "C" fn ear_loudness_knee(
 // What the map needs of a channel, worked out once, in 7 words: those that ear_step takes; or code 2 or 4 and nothing written.
 #[no_mangle]
 pub extern "C" fn ear_fit(top: u32, b: f32, m: f32, t: u32, c: u32, words: &mut [u32]) -> u32
-    ensures { λ code. ⌜ Ends themselves (Fit top b m t c (length (now (words .entry)))) code (now (words .entry)) (now (words .exit)) ⌝ }
+    ensures { λ code. ⌜ Ends themselves (Fits (Channel top b m t c) (fittedOf b m t c) straightWords (length (now (words .entry)))) code (now (words .entry)) (now (words .exit)) ⌝ }
 {
     loudness::fitted::fit(top, b, m, t, c, words)
 }
@@ -165,7 +165,7 @@ pub extern "C" fn ear_fit_knee(
     c: u32,
     words: &mut [u32],
 ) -> u32
-    ensures { λ code. ⌜ Ends themselves (FitKnee top b k m t kk c (length (now (words .entry)))) code (now (words .entry)) (now (words .exit)) ⌝ }
+    ensures { λ code. ⌜ Ends themselves (Fits (BentChannel top b k m t kk c) (fittedKnee b k m t kk c) bentWords (length (now (words .entry)))) code (now (words .entry)) (now (words .exit)) ⌝ }
 {
     loudness::fitted::fit_knee(top, b, k, m, t, kk, c, words)
 }

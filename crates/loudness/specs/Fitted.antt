@@ -34,12 +34,6 @@ pub record Fits (Good : Type 0) (words : List ℕ) (n : ℕ) (given : ℕ) (code
   pub success : given ≡ n → Good → code ≡ 0
   pub value : given ≡ n → Good → w ≡ words
 
-abbrev pub Fit : (top : ℕ) (b m : Float) (t c : ℕ) → ℕ → ℕ → List ℕ → Type 0
-Fit top b m t c = Fits (Channel top b m t c) (fittedOf b m t c) straightWords
-
-abbrev pub FitKnee : (top : ℕ) (b k m : Float) (t s c : ℕ) → ℕ → ℕ → List ℕ → Type 0
-FitKnee top b k m t s c = Fits (BentChannel top b k m t s c) (fittedKnee b k m t s c) bentWords
-
 -- threshold and comfort, as they stand in the words: of a bent channel in those of its lower and of its upper segment
 abbrev pub thresholdIn : List ℕ → ℕ
 thresholdIn w = getD w 2 0 % 1024

@@ -6,10 +6,11 @@ ghost use Prim.Native.Nat.{_+_, _*_, _%_, _^_, _<_};
 ghost use lib.ListN.{length};
 ghost use Rattle.units.specs.Answers.{Ends, itself};
 ghost use Rattle.units.specs.Tests.{Tells};
-ghost use Rattle.loudness.specs.Map.{Envelope};
+ghost use Rattle.loudness.specs.Map.{Channel};
+ghost use Rattle.loudness.specs.Knee.{BentChannel};
 ghost use Rattle.loudness.specs.Segment.{Segment, Levelled};
 ghost use Rattle.loudness.specs.Words.{Passes, BentPasses, Answered, Chosen, stepIn, sixWords, segmentWords};
-ghost use Rattle.loudness.specs.Fitted.{themselves, Fit, FitKnee, Step};
+ghost use Rattle.loudness.specs.Fitted.{straightWords, bentWords, themselves, fittedOf, fittedKnee, Fits, Step};
 
 // What the words of a segment sum to, modulo 2^32.
 const CHECK: u32 = 0xeaea_eaea;
@@ -177,7 +178,7 @@ fn write(b: f32, m: f32, t: u32, c: u32, w: &mut [u32])
 
 // The words of the channel b, m, t, c of a stimulator with the steps 0 to top; code 2 for another number of words, code 4 where they make no channel.
 pub fn fit(top: u32, b: f32, m: f32, t: u32, c: u32, w: &mut [u32]) -> u32
-    ensures { λ code. ⌜ Ends themselves (Fit top b m t c (length (now (w .entry)))) code (now (w .entry)) (now (w .exit)) ⌝ }
+    ensures { λ code. ⌜ Ends themselves (Fits (Channel top b m t c) (fittedOf b m t c) straightWords (length (now (w .entry)))) code (now (w .entry)) (now (w .exit)) ⌝ }
 {
     if w.len() != 7 {
         return 2;
@@ -191,7 +192,7 @@ pub fn fit(top: u32, b: f32, m: f32, t: u32, c: u32, w: &mut [u32]) -> u32
 
 // The words of the bent channel b, k, m, t, s, c, likewise: those of its two segments.
 pub fn fit_knee(top: u32, b: f32, k: f32, m: f32, t: u32, s: u32, c: u32, w: &mut [u32]) -> u32
-    ensures { λ code. ⌜ Ends themselves (FitKnee top b k m t s c (length (now (w .entry)))) code (now (w .entry)) (now (w .exit)) ⌝ }
+    ensures { λ code. ⌜ Ends themselves (Fits (BentChannel top b k m t s c) (fittedKnee b k m t s c) bentWords (length (now (w .entry)))) code (now (w .entry)) (now (w .exit)) ⌝ }
 {
     if w.len() != 14 {
         return 2;
