@@ -32,6 +32,7 @@ struct asked {
         uint32_t (*dot)(const float *a, uint64_t na, const float *b, uint64_t nb, float *out);
         uint32_t (*softmax)(const float *x, uint64_t nx, float *p, uint64_t np);
         uint32_t (*map)(float b, float m, uint32_t t, uint32_t c, float a, uint32_t *out);
+        uint32_t (*step)(const uint32_t *words, uint64_t n, float a, uint32_t *out);
     } call;
     uint32_t codes; /* the codes that it can return, bit 1 << code for each */
     uint32_t share; /* of so many drawn patterns it is asked one: 1, but for lists */
