@@ -20,14 +20,6 @@ pub fn bits_of(x: f32) -> u32
     f32::to_bits(x)
 }
 
-// m shifted up by s places, in two words: a chip of 32 bits has no shift of 64.
-pub fn shifted(m: u32, s: u32) -> u64
-    requires { ⌜ (1 ≤ s) × (s < 32) ⌝ }
-    ensures { λ r. ⌜ r ≡ m * 2 ^ s ⌝ }
-{
-    ((m >> (32 - s)) as u64) * 4294967296 + (m << s) as u64
-}
-
 // The upper word of n shifted up by s places, out of its two words.
 pub fn upper_word(n: u64, s: u32) -> u32
     requires { ⌜ (n * 2 ^ s < 2 ^ 64) × (s < 32) ⌝ }

@@ -42,7 +42,7 @@ steps-whole b h = steps-high b (omega arith) ∙ ap (λ (n : ℕ). (b % 8388608 
     through m u = ap (λ (n : ℕ). n / 2 ^ 24) (sym (mul-assoc m u (2 ^ 24))) ∙ mul-div-cancel (m * u) (pow-pos 24)
 
 -- below it the digits are shifted back
-pub steps-cut : (b : ℕ) → 94 ≤ b / 8388608 → b / 8388608 < 119 → stepsOf b ≡ (b % 8388608 + 8388608) / 2 ^ (118 - b / 8388608)
+pub steps-cut : (b : ℕ) → 94 ≤ b / 8388608 → b / 8388608 < 118 → stepsOf b ≡ (b % 8388608 + 8388608) / 2 ^ (118 - b / 8388608)
 steps-cut b h l = steps-high b (omega arith) ∙ ap (λ (n : ℕ). (b % 8388608 + 8388608) * 2 ^ (b / 8388608 - 94) / n) whole ∙ mul-div-mul-right (b % 8388608 + 8388608) (2 ^ (118 - b / 8388608)) (pow-pos (b / 8388608 - 94))
   where
     places : 24 ≡ 118 - b / 8388608 + (b / 8388608 - 94)

@@ -36,7 +36,7 @@ fn raise(f: u32) -> u32
     (((f as u64) * (o1 as u64) + (z as u64) * (e2 as u64)) / 4294967296) as u32
 }
 
-// The size with the pattern a as a whole number of 2^-32. From 2^-8 on that is exact; below it the digits are shifted to their place and cut off.
+// The size with the pattern a as a whole number of 2^-32. From 2^-9 on that is exact; below it the digits are shifted to their place and cut off.
 // Below 2^-33 nothing is left of them, nor of a subnormal.
 fn steps(a: u32) -> u64
     requires { ⌜ a < 134 * 8388608 ⌝ }
@@ -44,8 +44,9 @@ fn steps(a: u32) -> u64
 {
     let m = a % 8388608 + 8388608;
     let e = a / 8388608;
-    if 119 <= e {
-        return fixed::shifted(m, e - 118);
+    if 118 <= e {
+        let unit: u32 = 1 << (e - 118);
+        return (m as u64) * (unit as u64);
     }
     if 94 <= e {
         return (m >> (118 - e)) as u64;
