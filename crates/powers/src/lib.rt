@@ -60,6 +60,9 @@ fn cut_off(x: f32) -> u64
     ensures { λ r. ⌜ r ≡ cutOf x ⌝ }
 {
     let b = f32::to_bits(x);
+    if 0x3b00_0000 <= b % 2147483648 {
+        return whole_cut(x);
+    }
     let k = steps(b % 2147483648);
     if b < 2147483648 {
         541165879296 + k
