@@ -13,8 +13,8 @@
  *
  * All functions but ear_dot are whole numbers inside: their promises hold in
  * every state of the float unit, whatever its rounding mode and whether or not
- * it reads subnormals as zero. They compare one float with itself, to know a NaN,
- * and raise no exception but "invalid" where that is a signalling NaN ("denormal
+ * it reads subnormals as zero. They compare floats to know a NaN, for nothing else,
+ * and raise no exception but "invalid" where one is a signalling NaN ("denormal
  * operand" too on x86). ear_dot expects the usual state: rounding to nearest,
  * ties to even, with subnormals kept.
  */
