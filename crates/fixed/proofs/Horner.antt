@@ -25,11 +25,6 @@ pub horner-step : (D f c : ℕ) (cs : List ℕ) {p r : ℕ} → p ≡ horner D c
 unfolding horner
 horner-step D f c cs h e = e ∙ ap (λ (p : ℕ). c + p * f / D) h
 
--- at zero it is the first coefficient
-pub horner-zero : (D c : ℕ) (cs : List ℕ) → horner D (c ∷ cs) 0 ≡ c
-unfolding horner
-horner-zero D c cs = rw (mul-zero, zero-div) (omega arith)
-
 -- it is at least its first coefficient
 pub horner-first : (D c : ℕ) (cs : List ℕ) (f : ℕ) → c ≤ horner D (c ∷ cs) f
 unfolding horner

@@ -51,11 +51,6 @@ enclosed true d x pos = let (l, below, above) = between d (P x) (N x) (2 ^ 149) 
 pub accepts : {x : Float} → Accepts x → exp2.Accepts x
 accepts a = record { number = a .number; at-least = le-trans (a .at-least) (lit≤ tt); at-most = le-trans (a .at-most) (lit≤ tt) }
 
-pub argument-top : (base : Base) (x : Float) → Accepts x → argumentOf base x ≤ 253 * D
-unfolding argumentOf
-argument-top false x a = cut-top x (accepts a)
-argument-top true x a = natural-top x a
-
 -- a larger x is never cut to less
 pub argument-mono : (base : Base) (x x′ : Float) → Le x′ x → argumentOf base x′ ≤ argumentOf base x
 unfolding argumentOf

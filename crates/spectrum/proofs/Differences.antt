@@ -14,9 +14,6 @@ pub record Close (e : ℕ) (a b : Difference) : Type 0 where
 abbrev pub length : Difference → ℕ
 length a = a .plus + a .minus
 
-pub close-refl : {a : Difference} → Close 0 a a
-close-refl = record { most = omega arith; least = omega arith }
-
 pub close-sym : {e : ℕ} {a b : Difference} → Close e a b → Close e b a
 close-sym h = record { most = h .least; least = h .most }
 
@@ -28,9 +25,6 @@ close-weaken l h = record { most = omega (arith, h .most); least = omega (arith,
 
 pub close-add : {e f : ℕ} {a b c d : Difference} → Close e a b → Close f c d → Close (e + f) (add a c) (add b d)
 close-add h g = record { most = omega (arith, h .most, g .most); least = omega (arith, h .least, g .least) }
-
-pub close-opposite : {e : ℕ} {a b : Difference} → Close e a b → Close e (opposite a) (opposite b)
-close-opposite h = record { most = omega (arith, h .least); least = omega (arith, h .most) }
 
 pub close-times : {e : ℕ} (w : Difference) {a b : Difference} → Close e a b → Close (length w * e) (times w a) (times w b)
 close-times w h = record { most = products w _ _ _ _ _ (h .most) (h .least); least = products w _ _ _ _ _ (h .least) (h .most) }

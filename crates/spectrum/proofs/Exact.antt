@@ -16,7 +16,7 @@ use Rattle.spectrum.specs.Table.{unit, entry, cosineBelow, sineBelow, co
 use Rattle.spectrum.specs.Words.{valueOf}
 use Rattle.spectrum.specs.Transform.{unitsOf, turnedTotal, Turns}
 use Rattle.spectrum.specs.Floats.{wordOf}
-use Rattle.spectrum.proofs.Differences.{Close, length, close-refl, close-sym, close-trans, close-weaken, close-times, close-by, close-unscale, swapped, total-close, total-times, total-length}
+use Rattle.spectrum.proofs.Differences.{Close, length, close-sym, close-trans, close-weaken, close-times, close-by, close-unscale, swapped, total-close, total-times, total-length}
 use Rattle.spectrum.proofs.Turning.{cosine-length, sine-length}
 use Rattle.spectrum.proofs.Halving.{plain}
 use Rattle.spectrum.proofs.Loads.{quotient-small}

@@ -4,7 +4,7 @@ use Prim.Native.Nat.{ℕ, _+_, _-_, _*_, _≤_, _<_}
 use native.Mathlib.Nat.{mul-le-mul-left, mul-le-mul-right}
 use native.Mathlib.Omega.{arith}
 use Rattle.spectrum.specs.Difference.{Difference, whole, opposite, add, times}
-use Rattle.spectrum.proofs.Differences.{Close, length, close-sym, close-trans, close-weaken, close-add, close-times, close-opposite, close-unscale, swapped, distributed}
+use Rattle.spectrum.proofs.Differences.{Close, length, close-sym, close-trans, close-weaken, close-add, close-times, close-unscale, swapped, distributed}
 
 -- the number t - 2 u
 abbrev pub less : ℕ → ℕ → Difference

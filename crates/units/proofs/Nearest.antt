@@ -47,19 +47,6 @@ pub rnd-at : (n c k : ℕ) → 0 < c → n < 2 ^ 24 * 2 ^ k * c → (0 < k → 2
 unfolding rnd
 rnd-at n c k C h g = ap (λ (i : ℕ). closest n (c * 2 ^ i) * 2 ^ i) (drop-at n c k C h g)
 
--- from 2 ^ 23 units on, the normal range, a power of two goes through
-pub rnd-scale : (n c t : ℕ) → 0 < c → 2 ^ 23 * c ≤ n → rnd (n * 2 ^ t) c ≡ rnd n c * 2 ^ t
-rnd-scale n c t C h =
-    as-grid (n * 2 ^ t)
-    ∙ grid-scale binary32 n (c * 2 ^ 149) t (mul-pos C (pow-pos 149)) (normal-of-fraction binary32 n (c * 2 ^ 149) (mul-pos C (pow-pos 149)) normal)
-    ∙ ap (λ (x : ℕ). x * 2 ^ t) (sym (as-grid n))
-  where
-    as-grid : (m : ℕ) → rnd m c ≡ grid binary32 m (c * 2 ^ 149)
-    as-grid m = rnd-same m c (m * 2 ^ 149) (c * 2 ^ 149) C (mul-pos C (pow-pos 149)) (regroup m c (2 ^ 149)) ∙ unfold rnd in refl
-
-    normal : 2 ^ 23 * (c * 2 ^ 149) ≤ n * 2 ^ 149
-    normal = rw (mul-assoc (2 ^ 23) c (2 ^ 149)) at (mul-le-mul-right (2 ^ 149) h)
-
 -- ---- no number of 24 digits is nearer
 -- how many whole steps there are in n / c
 abbrev pub steps : ℕ → ℕ → ℕ

@@ -153,6 +153,3 @@ module _ (x y : Float) (h : Number x) (k : Number y) where
 module _ (x y : Float) (h : Number x) (k : Number y) (zx : N x ≡ 0) (zy : N y ≡ 0) where
   pub sizes-le : le x y ≡ true → P x ≤ P y
   sizes-le e = let l = le-true x y h k e in omega arith
-
-  pub sizes-gt : le x y ≡ false → P y < P x
-  sizes-gt e = let l = le-false x y h k e in omega arith

@@ -12,7 +12,7 @@ use lib.Ieee.Scale.{finite}
 use Rattle.units.specs.Units.{mag, negative, P, N, Number, Le}
 use Rattle.units.proofs.Near.{Near}
 use Rattle.units.proofs.Size.{mag-exact}
-use Rattle.units.proofs.Result.{Rounds, rounds-of, rounds-near, rounds-mono}
+use Rattle.units.proofs.Result.{Rounds, rounds-of, rounds-near}
 
 -- the size of the product, on the side of its sign
 sides : (s t : Bool) (x y : ℕ)
@@ -67,21 +67,3 @@ mul-near x y h k t =
     whole true true a b = omega arith
 
 -- ---- order, infinite results included
-module _ (x x' y : Float) (h : Number x) (h' : Number x') (k : Number y) where
-  -- times a number that is not negative a product never falls
-  pub mul-mono : N y ≡ 0 → Le x x' → Le (mul binary32 x y) (mul binary32 x' y)
-  mul-mono z l =
-      rounds-mono (mul binary32 x y) (mul binary32 x' y) (P x * P y + N x * N y) (P x * N y + N x * P y) (2 ^ 149) (P x' * P y + N x' * N y) (P x' * N y + N x' * P y) (2 ^ 149)
-      (pow-pos 149) (pow-pos 149) (mul-rounds x y h k) (mul-rounds x' y h' k) (grown (P x) (N x) (P x') (N x') (P y) (N y) (2 ^ 149) z l)
-    where
-      grown : (a b a' b' p n u : ℕ) → n ≡ 0 → a + b' ≤ a' + b → (a * p + b * n) * u + (a' * n + b' * p) * u ≤ (a' * p + b' * n) * u + (a * n + b * p) * u
-      grown a b a' b' p n u e g = rw e (let f : (a + b') * (p * u) ≤ (a' + b) * (p * u) = mul-le-mul-right (p * u) g in omega arith)
-
-  -- and times one that is not positive it never grows
-  pub mul-anti : P y ≡ 0 → Le x x' → Le (mul binary32 x' y) (mul binary32 x y)
-  mul-anti z l =
-      rounds-mono (mul binary32 x' y) (mul binary32 x y) (P x' * P y + N x' * N y) (P x' * N y + N x' * P y) (2 ^ 149) (P x * P y + N x * N y) (P x * N y + N x * P y) (2 ^ 149)
-      (pow-pos 149) (pow-pos 149) (mul-rounds x' y h' k) (mul-rounds x y h k) (grown (P x) (N x) (P x') (N x') (P y) (N y) (2 ^ 149) z l)
-    where
-      grown : (a b a' b' p n u : ℕ) → p ≡ 0 → a + b' ≤ a' + b → (a' * p + b' * n) * u + (a * n + b * p) * u ≤ (a * p + b * n) * u + (a' * n + b' * p) * u
-      grown a b a' b' p n u e g = rw e (let f : (a + b') * (n * u) ≤ (a' + b) * (n * u) = mul-le-mul-right (n * u) g in omega arith)

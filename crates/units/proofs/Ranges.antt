@@ -17,10 +17,6 @@ use Rattle.units.proofs.Bits.{Is, put, put-positive}
 use Rattle.units.proofs.Order.{le-false}
 
 -- ---- a float between two finite ones is finite
-lt-le : (x y : Float) → lt x y ≡ true → le x y ≡ true
-unfolding le
-lt-le x y e = ap (λ (b : Bool). b || eq x y) e
-
 pub finite-between : (lo x hi : Float) → T (finite lo) → T (finite hi) → le lo x ≡ true → le x hi ≡ true → T (finite x)
 unfolding le lt eq
 finite-between nan x hi f g a b = absurd f

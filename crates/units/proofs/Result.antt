@@ -15,7 +15,7 @@ use Rattle.units.proofs.Naturals.{le-or-lt, sub-mul}
 use Rattle.units.proofs.Near.{Near, near-sym}
 use Rattle.units.proofs.Size.{mag-digits, mag-lt, finite-of-mag, finite-real}
 use Rattle.units.proofs.Round.{rnd, rnd-stays, rnd-upto, rnd-mono, rnd-near, rnd-whole, rnd-same, rnd-zero}
-use Rattle.units.proofs.Rounded.{cap, cap-under, cap-mono, round-P, round-N, round-real, of-units, of-units-number, of-units-sides}
+use Rattle.units.proofs.Rounded.{cap, cap-under, round-P, round-N, round-real}
 
 -- z is (a - b) / c units rounded, an infinity where that is too large, and no NaN: at most one of the two differences is above 0
 pub record Rounds (z : Float) (a b c : ℕ) : Type 0 where
@@ -89,15 +89,6 @@ module _ (z : Float) (a b c : ℕ) (r : Rounds z a b c) where
       finite-of-mag z (r .fits32) (r .no-nan)
       (size-lt (negative z) (mag z) (2 ^ 277) (rw (r .plus) (lt-of-le-of-lt (min-le-left (rnd (a - b) c) (2 ^ 277)) g)) (rw (r .minus) (lt-of-le-of-lt (min-le-left (rnd (b - a) c) (2 ^ 277)) h)))
 
-  -- and only there
-  pub rounds-finite : T (finite z) ↔ ((rnd (a - b) c < 2 ^ 277) × (rnd (b - a) c < 2 ^ 277))
-  rounds-finite = (under, λ h. rounds-number (h .0) (h .1) .is-finite)
-    where
-      under : T (finite z) → (rnd (a - b) c < 2 ^ 277) × (rnd (b - a) c < 2 ^ 277)
-      under t =
-          let n : Number z = record { fits32 = r .fits32; is-finite = t } in
-          (rw (rounds-plus t) at (sides-lt z n .0), rw (rounds-minus t) at (sides-lt z n .1))
-
   -- so where the exact number is at most some number of 24 digits below 2 ^ 277, in size
   pub rounds-bounded : (q j : ℕ) → 0 < c → q ≤ 2 ^ 24 → q * 2 ^ j < 2 ^ 277 → Near a b (q * 2 ^ j * c) → Number z
   rounds-bounded q j C h l d =
@@ -141,17 +132,6 @@ scaled a b c a' b' c' h = less (a - b) (a' - b') (sub-mul a b c') (sub-mul a' b'
     less : (x y : ℕ) → x * c' ≡ a * c' - b * c' → y * c ≡ a' * c - b' * c → x * c' ≤ y * c
     less x y u v = omega arith
 
--- of two exact numbers the larger has a result that is no smaller, infinities included
-pub rounds-mono : (z z' : Float) (a b c a' b' c' : ℕ) → 0 < c → 0 < c' → Rounds z a b c → Rounds z' a' b' c' → a * c' + b' * c ≤ a' * c + b * c' → Le z z'
-rounds-mono z z' a b c a' b' c' C C' r r' h =
-    let p : P z ≤ P z' = rw (r .plus, r' .plus) (cap-mono (rnd (a - b) c) (rnd (a' - b') c') (rnd-mono (a - b) c (a' - b') c' C C' (scaled a b c a' b' c' h))) in
-    let g = scaled b' a' c' b a c (swap (a * c') (b' * c) (a' * c) (b * c') h) in
-    let n : N z' ≤ N z = rw (r .minus, r' .minus) (cap-mono (rnd (b' - a') c') (rnd (b - a) c) (rnd-mono (b' - a') c' (b - a) c C' C g)) in
-    add-le-add p n
-  where
-    swap : (u v x y : ℕ) → u + v ≤ x + y → v + u ≤ y + x
-    swap u v x y g = omega arith
-
 -- equal exact numbers have results that are the same number
 pub rounds-same : (z z' : Float) (a b c a' b' c' : ℕ) → 0 < c → 0 < c' → Rounds z a b c → Rounds z' a' b' c' → a * c' + b' * c ≡ a' * c + b * c' → (P z ≡ P z') × (N z ≡ N z')
 rounds-same z z' a b c a' b' c' C C' r r' e =
@@ -170,22 +150,6 @@ module _ (z : Float) (a b c : ℕ) (C : 0 < c) (r : Rounds z a b c) where
   -- where the exact number is that of a finite float, the result is that number
   pub rounds-exact : (w : Float) → Number w → a + N w * c ≡ P w * c + b → (P z ≡ P w) × (N z ≡ N w)
   rounds-exact w n e = rounds-same z w a b c (P w) (N w) 1 C (lit< tt) r (rounds-self w n) (rw (mul-one a, mul-one b) e)
-
-  -- the same by digits: a - b is q * 2 ^ j * c or, for the sign -, its opposite
-  pub rounds-digits : (s : Bool) (q j : ℕ) → q ≤ 2 ^ 24 → q * 2 ^ j < 2 ^ 277 → a + cond s (q * 2 ^ j) 0 * c ≡ cond s 0 (q * 2 ^ j) * c + b
-      → (P z ≡ cond s 0 (q * 2 ^ j)) × (N z ≡ cond s (q * 2 ^ j) 0)
-  rounds-digits s q j h l e =
-      let w = of-units-sides s q j h l in
-      let g = rounds-exact (of-units s (q * 2 ^ j)) (of-units-number s q j h l) (rw (w .0, w .1) e) in
-      (g .0 ∙ w .0, g .1 ∙ w .1)
-
-  -- where it is at most a finite float, so is the result
-  pub rounds-upto : (w : Float) → Number w → a + N w * c ≤ P w * c + b → Le z w
-  rounds-upto w n h = rounds-mono z w a b c (P w) (N w) 1 C (lit< tt) r (rounds-self w n) (rw (mul-one a, mul-one b) h)
-
-  -- and where it is at least a finite float, so is the result
-  pub rounds-from : (w : Float) → Number w → P w * c + b ≤ a + N w * c → Le w z
-  rounds-from w n h = rounds-mono w z (P w) (N w) 1 a b c (lit< tt) C (rounds-self w n) r (rw (mul-one a, mul-one b) h)
 
   -- a result is on the exact number's side of zero: not positive where that is not
   pub rounds-nonpositive : a ≤ b → P z ≡ 0

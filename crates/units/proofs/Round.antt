@@ -122,25 +122,9 @@ rnd-exact n c q j C h e = elim (eq-or-lt-of-le h) [ inl p ↦ fits-digits n c (2
     up : q ≡ 2 ^ 24 → q * 2 ^ j ≡ 2 ^ 23 * 2 ^ suc j
     up p = rw (p, pow-suc 2 j) (omega arith)
 
--- what is rounded has 24 digits
-pub rnd-digits : (n c : ℕ) → (q : ℕ) × (j : ℕ) × (q ≤ 2 ^ 24) × (rnd n c ≡ q * 2 ^ j)
-unfolding rnd
-rnd-digits n c = (kept 24 n c, drop 24 n c, kept-le n c, refl)
-
--- so rounding it again, over any divisor, changes nothing
-pub rnd-again : (n c d : ℕ) → 0 < d → rnd (rnd n c * d) d ≡ rnd n c
-rnd-again n c d D =
-    let r = rnd-digits n c in
-    let e = r .3 in
-    rnd-exact (rnd n c * d) d (r .0) (r .1) D (r .2) (ap (λ (x : ℕ). x * d) e) ∙ sym e
-
 -- a fraction that is at most a number of 24 digits rounds to no more
 pub rnd-upto : (n c q j : ℕ) → 0 < c → q ≤ 2 ^ 24 → n ≤ q * 2 ^ j * c → rnd n c ≤ q * 2 ^ j
 rnd-upto n c q j C h l = rw (rnd-exact (q * 2 ^ j * c) c q j C h refl) at (rnd-mono n c (q * 2 ^ j * c) c C C (mul-le-mul-right c l))
-
--- and one that is at least such a number to no less
-pub rnd-from : (n c q j : ℕ) → 0 < c → q ≤ 2 ^ 24 → q * 2 ^ j * c ≤ n → q * 2 ^ j ≤ rnd n c
-rnd-from n c q j C h l = rw (rnd-exact (q * 2 ^ j * c) c q j C h refl) at (rnd-mono (q * 2 ^ j * c) c n c C C (mul-le-mul-right c l))
 
 -- a whole number of units with 24 digits stays as it is
 pub rnd-stays : (n q j : ℕ) → q ≤ 2 ^ 24 → n ≡ q * 2 ^ j → rnd n 1 ≡ n
@@ -186,13 +170,6 @@ low-or-high n c C = elim (eq-zero-or-pos (drop 24 n c)) [ inl e ↦ inl (div-lt-
   where
     most : (z : ℕ) → z - 24 ≡ 0 → z ≤ 24
     most z e = omega arith
-
--- from 2 ^ 23 units on, the normal range, the distance is at most n / c in 2 ^ 24
-pub rnd-rel : (n c : ℕ) → 0 < c → 2 ^ 23 * c ≤ n → Near (rnd n c * c * 2 ^ 24) (n * 2 ^ 24) n
-rnd-rel n c C h = elim (low-or-high n c C) [ inl l ↦ near (rnd n c * c) (rnd-low n c C l) | inr g ↦ high n c C g ]
-  where
-    near : (r : ℕ) → Near (2 * r) (2 * n) c → Near (r * 2 ^ 24) (n * 2 ^ 24) n
-    near r a = omega arith
 
 -- anywhere: that, and half a unit
 pub rnd-near : (n c : ℕ) → 0 < c → Near (rnd n c * c * 2 ^ 24) (n * 2 ^ 24) (n + 2 ^ 23 * c)

@@ -81,10 +81,6 @@ pub round-N : (s : Bool) (a c : ℕ) → N (round binary32 s a c) ≡ cond s (ca
 round-N s a c = rw (round-sign s a c, round-mag s a c)
 
 -- ---- held to an infinity's size
--- the order stays
-pub cap-mono : (a b : ℕ) → a ≤ b → cap a ≤ cap b
-cap-mono a b h = le-min (le-trans (min-le-left a (2 ^ 277)) h) (min-le-right a (2 ^ 277))
-
 -- below that size nothing was cut off
 pub cap-under : (a : ℕ) → cap a < 2 ^ 277 → cap a ≡ a
 cap-under a h = held a (2 ^ 277) h
@@ -93,20 +89,5 @@ cap-under a h = held a (2 ^ 277) h
     held x m l = omega arith
 
 -- ---- every number of 24 digits below 2 ^ 277 is a float
--- the float of n units with the sign s
-abbrev pub of-units : Bool → ℕ → Float
-of-units s n = round binary32 s n (2 ^ 149)
-
 stays : (q j : ℕ) → q ≤ 2 ^ 24 → rnd (q * 2 ^ j * 2 ^ 149) (2 ^ 149) ≡ q * 2 ^ j
 stays q j h = rnd-exact (q * 2 ^ j * 2 ^ 149) (2 ^ 149) q j (pow-pos 149) h refl
-
--- a number of 24 digits below 2 ^ 277 has a finite float
-pub of-units-number : (s : Bool) (q j : ℕ) → q ≤ 2 ^ 24 → q * 2 ^ j < 2 ^ 277 → Number (of-units s (q * 2 ^ j))
-of-units-number s q j h l = round-number s (q * 2 ^ j) (2 ^ 149) (rw (stays q j h) l)
-
--- which is that number, with the sign that was asked for
-pub of-units-sides : (s : Bool) (q j : ℕ) → q ≤ 2 ^ 24 → q * 2 ^ j < 2 ^ 277
-    → (P (of-units s (q * 2 ^ j)) ≡ cond s 0 (q * 2 ^ j)) × (N (of-units s (q * 2 ^ j)) ≡ cond s (q * 2 ^ j) 0)
-of-units-sides s q j h l =
-    let e : cap (rnd (q * 2 ^ j * 2 ^ 149) (2 ^ 149)) ≡ q * 2 ^ j = rw (stays q j h) (min-eq-left (le-of-lt l)) in
-    (round-P s (q * 2 ^ j) (2 ^ 149) ∙ ap (λ (x : ℕ). cond s 0 x) e, round-N s (q * 2 ^ j) (2 ^ 149) ∙ ap (λ (x : ℕ). cond s x 0) e)

@@ -12,7 +12,7 @@ use Rattle.units.specs.Units.{mag, negative, P, N, Number, Le}
 use Rattle.units.proofs.Naturals.{sub-mul}
 use Rattle.units.proofs.Near.{Near}
 use Rattle.units.proofs.Size.{mag-exact}
-use Rattle.units.proofs.Result.{Rounds, rounds-of, rounds-whole, rounds-mono}
+use Rattle.units.proofs.Result.{Rounds, rounds-of, rounds-whole}
 
 -- ---- two sizes a / c and b / c that are X and Y units, for u = 2 ^ 149
 sum-scale : (a b c x y u : ℕ) → a * u ≡ x * c → b * u ≡ y * c → (a + b) * u * 1 ≡ (x + y) * c
@@ -88,61 +88,12 @@ swapped : (s : Bool) (m : ℕ) → (cond (not s) 0 m ≡ cond s m 0) × (cond (n
 swapped false m = (refl, refl)
 swapped true m = (refl, refl)
 
--- -x has x's two sides exchanged
-pub neg-sides : (x : Float) → (P (neg x) ≡ N x) × (N (neg x) ≡ P x)
-unfolding neg mag negative
-neg-sides nan = (refl, refl)
-neg-sides (inf s) = swapped s (2 ^ 277)
-neg-sides (fin s m e) = swapped s (m * up e * 2 ^ 149 / down e)
-
-neg-finite : (x : Float) → finite (neg x) ≡ finite x
-unfolding neg
-neg-finite nan = refl
-neg-finite (inf s) = refl
-neg-finite (fin s m e) = refl
-
--- and is finite where x is
-pub neg-number : (x : Float) → Number x → Number (neg x)
-neg-number x n = record { fits32 = neg-fits binary32 x (n .fits32); is-finite = rw neg-finite (n .is-finite) }
-
-sub-is : (x y : Float) → sub binary32 x y ≡ add binary32 x (neg y)
-unfolding sub
-sub-is x y = refl
-
--- the difference of two finite floats, as an exact number rounded
-pub sub-rounds : (x y : Float) → Number x → Number y → Rounds (sub binary32 x y) (P x + N y) (N x + P y) 1
-sub-rounds x y h k = rw sub-is (rw (neg-sides y .0, neg-sides y .1) at (add-rounds x (neg y) h (neg-number y k)))
-
--- a difference is finite only where both of its operands are
-pub sub-operands : (x y : Float) → T (finite (sub binary32 x y)) → T (finite x) × T (finite y)
-sub-operands x y t = let u = add-operands x (neg y) (rw sub-is at t) in (u .0, rw neg-finite at (u .1))
-
 -- ---- the standard model
 -- where d is at least the size of the exact sum, a finite result is at most d / 2 ^ 24 off
 pub add-near : (x y : Float) (d : ℕ) → Number x → Number y → T (finite (add binary32 x y)) → Near (P x + P y) (N x + N y) d
     → Near ((P (add binary32 x y) + (N x + N y)) * 2 ^ 24) ((N (add binary32 x y) + (P x + P y)) * 2 ^ 24) d
 add-near x y d h k t g = rounds-whole (add binary32 x y) (P x + P y) (N x + N y) d (add-rounds x y h k) t g
 
--- where d is at least the size of the exact difference, a finite result is at most d / 2 ^ 24 off
-pub sub-near : (x y : Float) (d : ℕ) → Number x → Number y → T (finite (sub binary32 x y)) → Near (P x + N y) (N x + P y) d
-    → Near ((P (sub binary32 x y) + (N x + P y)) * 2 ^ 24) ((N (sub binary32 x y) + (P x + N y)) * 2 ^ 24) d
-sub-near x y d h k t g = rounds-whole (sub binary32 x y) (P x + N y) (N x + P y) d (sub-rounds x y h k) t g
-
 -- ---- order, infinite results included
 grown : (a b c d a' b' c' d' : ℕ) → a + b' ≤ a' + b → c + d' ≤ c' + d → (a + c) * 1 + (b' + d') * 1 ≤ (a' + c') * 1 + (b + d) * 1
 grown a b c d a' b' c' d' h g = omega arith
-
--- a sum never falls where its operands grow
-pub add-mono : (x x' y y' : Float) → Number x → Number x' → Number y → Number y' → Le x x' → Le y y' → Le (add binary32 x y) (add binary32 x' y')
-add-mono x x' y y' h h' k k' l m =
-    rounds-mono (add binary32 x y) (add binary32 x' y') (P x + P y) (N x + N y) 1 (P x' + P y') (N x' + N y') 1 (lit< tt) (lit< tt) (add-rounds x y h k) (add-rounds x' y' h' k')
-    (grown (P x) (N x) (P y) (N y) (P x') (N x') (P y') (N y') l m)
-
--- nor a difference where the first grows and the second falls
-pub sub-mono : (x x' y y' : Float) → Number x → Number x' → Number y → Number y' → Le x x' → Le y' y → Le (sub binary32 x y) (sub binary32 x' y')
-sub-mono x x' y y' h h' k k' l m =
-    rounds-mono (sub binary32 x y) (sub binary32 x' y') (P x + N y) (N x + P y) 1 (P x' + N y') (N x' + P y') 1 (lit< tt) (lit< tt) (sub-rounds x y h k) (sub-rounds x' y' h' k')
-    (grown (P x) (N x) (N y) (P y) (P x') (N x') (N y') (P y') l (turned (P y') (N y) (P y) (N y') m))
-  where
-    turned : (a b c d : ℕ) → a + b ≤ c + d → b + a ≤ d + c
-    turned a b c d g = omega arith
