@@ -2,6 +2,7 @@
 
 mod guess;
 
+ghost use mathlib.Core.Bool.{true};
 ghost use mathlib.Core.Path.{_≡_};
 ghost use Prim.Native.Nat.{_+_, _*_, _/_, _<_, _≤_, _^_};
 ghost use Rattle.units.specs.Answers.{Ends, floatBits};
@@ -10,11 +11,23 @@ ghost use Rattle.roots.specs.Value.{IsNear, sqrtBits, IsNearRecip, rsqrt
 ghost use Rattle.roots.specs.Sqrt.{Sqrt};
 ghost use Rattle.roots.specs.Rsqrt.{Rsqrt};
 
-// The whole number nearest to the root of n, whatever the guess: the tests of the two loops are the statement.
+// Whether s is the whole number nearest to the root of n, in one test: n - s^2 + s - 1 is from 0 to 2 s - 1, and below 0 it wraps to far more.
+fn is_root(n: u64, s: u32) -> bool
+    requires { ⌜ (n < 2 ^ 48) × (s < 2 ^ 26) ⌝ }
+    ensures { λ r. ⌜ (r ≡ true → IsNear n s) ⌝ }
+{
+    let w = s as u64;
+    std::num::wrapping_sub_u64(n + w, w * w + 1) < 2 * w
+}
+
+// The whole number nearest to the root of n, whatever the guess: nearly always it is the guess; else the tests of the two loops are the statement.
 fn settle_root(n: u64, guess: u32) -> u32
     requires { ⌜ (2 ^ 46 ≤ n) × (n < 2 ^ 48) × (guess < 2 ^ 26) ⌝ }
     ensures { λ s. ⌜ IsNear n s ⌝ }
 {
+    if is_root(n, guess) {
+        return guess;
+    }
     let mut s = guess;
     while (s as u64) * (s as u64) + (s as u64) < n {
         s += 1;
@@ -47,22 +60,31 @@ fn root_bits(x: f32) -> u32
     (e / 2 + 51) * 8388608 + s
 }
 
-// The nearest float to the root of x, of a zero the same zero; code 1 and nothing written where x is a NaN, below zero or an infinity. The pattern is
-// that of `bits_of`: behind a test for NaN of its own the compiler makes of the test for zeros one of floats, which takes a subnormal for a zero where
-// the float unit reads it so.
+// The nearest float to the root of x, of a zero the same zero; code 1 and nothing written where x is a NaN, below zero or an infinity. One test of the
+// pattern tells the normal floats above zero. The zeros are told one by one: of one test for both the compiler makes one of floats, which takes a
+// subnormal for a zero where the float unit reads it so.
 pub fn sqrt(x: f32, out: &mut u32) -> u32
     ensures { λ code. ⌜ Ends floatBits (Sqrt x) code (now (out .entry)) (now (out .exit)) ⌝ }
 {
-    let b = fixed::bits_of(x);
-    if b % 0x8000_0000 == 0 {
-        *out = b;
-        return 0;
+    if x != x {
+        return 1;
     }
-    if b < 0x7f80_0000 {
-        *out = root_bits(x);
-        return 0;
+    let b = f32::to_bits(x);
+    if 0x7f00_0000 <= std::num::wrapping_sub_u32(b, 0x0080_0000) {
+        if b == 0 {
+            *out = 0;
+            return 0;
+        }
+        if b == 0x8000_0000 {
+            *out = 0x8000_0000;
+            return 0;
+        }
+        if 0x0080_0000 <= b {
+            return 1;
+        }
     }
-    1
+    *out = root_bits(x);
+    0
 }
 
 // (2 h + 1)^2 m in steps of 2 ^ 64, cut off: the product has up to 78 digits, and is taken in two limbs.
