@@ -30,15 +30,15 @@ alike [] [] e = refl
 alike [] (b ∷ p) e = absurd (omega arith)
 alike (y ∷ x) p e = given (y ∷ x) p (λ n. omega arith)
 
+not-zero : {n : ℕ} → 0 < n → n ≡ 0 → ⊥
+not-zero h e = omega arith
+
 -- it is the same where p, if x is empty, is the same
 pub source-same : (x : List Float) (p q : List ℕ) → (length x ≡ 0 → q ≡ p) → sourceOf x q ≡ sourceOf x p
 source-same x p q s = elim (eq-zero-or-pos (length x)) [
   | inl e ↦ ap (sourceOf x) (s e)
   | inr e ↦ given x q (not-zero e) ∙ sym (given x p (not-zero e))
 ]
-  where
-    not-zero : {n : ℕ} → 0 < n → n ≡ 0 → ⊥
-    not-zero h e = omega arith
 
 -- ---- digits kept in p: none where x is empty
 pub kept-none : (x : List Float) (p : List ℕ) (i q : ℕ) → length x ≡ 0 → keptAt x p i q ≡ p
@@ -61,9 +61,6 @@ given-at x p i e = ap (λ (l : List Float). at l i) (given x p e)
 -- there are as many of them
 pub given-within : (x : List Float) (p : List ℕ) (i : ℕ) → Sized x p → (length x ≡ 0 → ⊥) → i < length p → i < length x
 given-within x p i s e h = omega (arith, s, ap length (given x p e))
-
-not-zero : {n : ℕ} → 0 < n → n ≡ 0 → ⊥
-not-zero h e = omega arith
 
 -- ---- while the outputs are written: p became q, which has the same length, and the same element i
 module _ (x : List Float) (p q : List ℕ) (same : length q ≡ length p) where

@@ -1,11 +1,8 @@
 -- `weights::left` meets its contract: a product, a shift, or nothing where that would be one of 64 places and more. Assumes nothing.
-use borrow.Author.Needs.{needs}
 use mathlib.Core.Path.{_≡_, sym, _∙_}
 use Prim.Native.Nat.{ℕ, _+_, _*_, _/_, _^_, _≤_, _<_}
 use native.Mathlib.Nat.{le-of-lt, div-le-self, mul-le-mul-left}
 use native.Mathlib.Omega.{arith}
-use mir.Syntax.{w64}
-use mir.Val.{Fits}
 use Rattle.weights.proofs.Aligning.{left-all, left-first, left-none}
 use Rattle.weights.proofs.left.Statement.{statement}
 use Rattle.weights.proofs.left.Tie as tie
