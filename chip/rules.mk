@@ -6,10 +6,12 @@
 #                   same bits as on the host (an hour for each)
 # make chip-bench   instructions, bytes and stack of each function beside newlib's; writes docs/chip.txt
 
-# Without LLVM's second scheduler (misched) the roots take 4 to 8 instructions fewer, and no function is slower by more than 2. A guess that two
-# functions share is no call with a higher limit for inlining: the root takes 4 fewer, the path from microphone to electrode 300, for 120 bytes.
+# Without LLVM's second scheduler (misched) the roots take 4 to 8 instructions fewer, and no function is slower by more than 2. Without its hoisting of
+# constants, which loads a mask of 23 bits again and again where one instruction puts bits in, softmax takes 8 fewer, and no function is slower by more than 1.
+# A guess that two functions share is no call with a higher limit for inlining: the root takes 4 fewer, the path from microphone to electrode 300, for 120 bytes.
 FOR = chip
-TARGET_chip = --target=thumbv7em-none-eabihf -mcpu=cortex-m4 -mfloat-abi=hard -Xclang -target-feature -Xclang -use-misched -mllvm -inline-threshold=400
+TARGET_chip = --target=thumbv7em-none-eabihf -mcpu=cortex-m4 -mfloat-abi=hard -Xclang -target-feature -Xclang -use-misched \
+	-mllvm -disable-constant-hoisting -mllvm -inline-threshold=400
 TARGET_cortex-m33 = --target=thumbv8m.main-none-eabihf -mcpu=cortex-m33 -mfloat-abi=hard
 TARGET_riscv32imafc = --target=riscv32-none-elf -march=rv32imafc -mabi=ilp32f
 

@@ -233,6 +233,34 @@ static void of_elements(void)
           base->name);
 }
 
+static void all_outputs(size_t n, uint32_t pattern)
+{
+    for (size_t i = 0; i < n; i++)
+        memcpy(&p[i], &pattern, sizeof pattern);
+}
+
+/* The output list is the program's notebook between the sum and the weights: what it held before must not matter. */
+static void of_old_outputs(void)
+{
+    static const uint32_t olds[] = {0, 0x80000000, 0x3f800000, 0x7f800001, 0xffc00000, 0xffffffff};
+    bool same = true, kept = true;
+    for (size_t i = 0; i < sizeof olds / sizeof olds[0]; i++)
+        for (int j = 0; j < KINDS; j++) {
+            size_t n = 1 + draw() % LONGEST;
+            fill(&kinds[j], n);
+            same &= base->call(x, n, q, n) == EAR_OK;
+            all_outputs(n, olds[i]);
+            same &= base->call(x, n, p, n) == EAR_OK && memcmp(p, q, n * sizeof p[0]) == 0;
+            x[n - 1] = NAN;
+            kept &= base->call(x, n, q, n) == EAR_OUT_OF_RANGE && memcmp(p, q, n * sizeof p[0]) == 0;
+            all_outputs(n, olds[i]);
+            memcpy(q, p, n * sizeof p[0]);
+            kept &= base->call(x, n, p, n) == EAR_OUT_OF_RANGE && memcmp(p, q, n * sizeof p[0]) == 0;
+        }
+    group(same, "%s: outputs are the same bits whatever the list held before: zeros, NaNs, ones, other outputs", base->name);
+    group(kept, "%s: and a refusal leaves all of that as it was", base->name);
+}
+
 /* ---- wrong programs */
 static uint32_t last_takes_the_rest(const float *from, uint64_t n, float *to, uint64_t m)
 {
@@ -402,6 +430,7 @@ static void all_of_it(void)
     of_permutations();
     of_lengths();
     of_elements();
+    of_old_outputs();
     for (int i = 0; i < WRONGS; i++)
         reject(&wrongs[i]);
     of_section_9();

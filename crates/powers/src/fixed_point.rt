@@ -1,7 +1,7 @@
 // Powers of either base in fixed point, before any rounding to a float: an argument, of whose fraction are the digits, and whose whole part is the exponent.
 
 ghost use mathlib.Core.Path.{_≡_};
-ghost use Prim.Native.Nat.{_/_, _%_, _^_};
+ghost use Prim.Native.Nat.{_+_, _/_, _%_, _^_};
 ghost use Rattle.powers.specs.Raised.{raised};
 ghost use Rattle.powers.specs.Exp.{Accepts};
 ghost use Rattle.powers.specs.Fixed.{argumentOf};
@@ -18,11 +18,11 @@ pub fn argument(natural: bool, x: f32) -> u64
     }
 }
 
-// The digits r of the power r * 2^(e - 158).
-pub fn digits(c: u64) -> u64
-    ensures { λ r. ⌜ r ≡ raised (c % 2 ^ 32) ⌝ }
+// The 32 digits q behind the first of the power (2^32 + q) * 2^(e - 158).
+pub fn digits(c: u64) -> u32
+    ensures { λ q. ⌜ q + 2 ^ 32 ≡ raised (c % 2 ^ 32) ⌝ }
 {
-    0x1_0000_0000 + super::raise((c % 4294967296) as u32) as u64
+    super::raise((c % 4294967296) as u32)
 }
 
 // And its exponent e.

@@ -1,9 +1,10 @@
 -- The sum of the powers in one word: each is cut off to steps of the largest one's exponent, and one step more makes up for it. Assumes nothing.
-use mathlib.Core.Path.{_≡_}
+use mathlib.Core.Path.{_≡_, sym, ap, _∙_}
 use mathlib.Core.List.{List}
 use Prim.Native.Nat.{ℕ, zero, suc, _+_, _-_, _*_, _/_, _^_, _≤_, _<_}
-use native.Mathlib.Nat.{le-trans, lt-of-lt-of-le, le-of-mul-le-mul-right, mul-le-mul-right, div-mul-le-self, lt-div-mul-add, div-le-self, div-eq-of-lt}
+use native.Mathlib.Nat.{le-trans, lt-of-lt-of-le, le-of-mul-le-mul-right, mul-le-mul-right, div-mul-le-self, lt-div-mul-add, div-le-self, div-eq-of-lt, div-eq-of-eq-mul-left, mul-div-mul-right, mul-assoc}
 use native.Mathlib.Omega.{arith}
+use lib.Dec.{lit<}
 use lib.Pow.{pow-pos, pow-mono}
 use Rattle.units.proofs.Naturals.{pow-split}
 use Rattle.powers.specs.Base.{Base}
@@ -44,10 +45,6 @@ module _ (r E e : ℕ) (up : E ≤ e) (small : r ≤ 2 ^ 33) where
   digits-few : q ≤ 2 ^ 53
   digits-few = omega (arith, div-le-self (r * 1048576) G)
 
-  -- none are left of one that is 64 exponents below
-  digits-far : 64 ≤ e - E → q ≡ 0
-  digits-far far = div-eq-of-lt (lt-of-lt-of-le (omega arith) (pow-mono {i = 64} {j = e - E} far))
-
 -- of an element
 module _ (base : Base) (x : Float) (a : Element x) (e : ℕ) (up : fixedExponent base x ≤ e) where
   share-aligned : Aligned (fixedPower base x) e 1 (shareOf base e x)
@@ -58,9 +55,20 @@ module _ (base : Base) (x : Float) (a : Element x) (e : ℕ) (up : fixedExponent
   unfolding shareOf
   share-few = omega (arith, digits-few (fixedDigits base x) (fixedExponent base x) e up (power x a base .most))
 
-  pub share-far : 64 ≤ e - fixedExponent base x → shareOf base e x ≡ 1
-  unfolding shareOf
-  share-far far = rw (digits-far (fixedDigits base x) (fixedExponent base x) e up (power x a base .most) far)
+-- ---- what is left of the digits d at k exponents below
+-- all of them up to 20
+pub left-all : (d k : ℕ) → k ≤ 20 → d * (1048576 / 2 ^ k) ≡ d * 1048576 / 2 ^ k
+left-all d k h =
+    let s : 1048576 ≡ 2 ^ (20 - k) * 2 ^ k = pow-split k 20 h in
+    ap (λ (t : ℕ). d * t) (div-eq-of-eq-mul-left (pow-pos k) s) ∙ sym (div-eq-of-eq-mul-left (pow-pos k) (ap (λ (t : ℕ). d * t) s ∙ sym (mul-assoc d (2 ^ (20 - k)) (2 ^ k))))
+
+-- all but the last k - 20 from there on
+pub left-first : (d k : ℕ) → 20 ≤ k → d / 2 ^ (k - 20) ≡ d * 1048576 / 2 ^ k
+left-first d k h = sym (ap (λ (t : ℕ). d * 1048576 / t) (pow-split 20 k h) ∙ mul-div-mul-right d (2 ^ (k - 20)) (lit< tt))
+
+-- none from 64 on
+pub left-none : (d k : ℕ) → d ≤ 2 ^ 33 → 64 ≤ k → d * 1048576 / 2 ^ k ≡ 0
+left-none d k small far = div-eq-of-lt (lt-of-lt-of-le (omega arith) (pow-mono {i = 64} {j = k} far))
 
 -- ---- their sum
 -- nothing yet
@@ -85,11 +93,11 @@ sum-aligned base xs e (suc n) all =
     let (a, up) = all n (omega arith) in
     aligned-more _ _ e n _ _ (sum-aligned base xs e n (λ i h. all i (omega arith))) (share-aligned base (at xs n) a e up)
 
--- 1,024 of them fit a word
-pub sum-fits : (base : Base) (xs : List Float) (e n : ℕ) → n ≤ 1024 → ((i : ℕ) → i < n → Element (at xs i) × (fixedExponent base (at xs i) ≤ e)) → sum (shareAt base e xs) n < 2 ^ 64
+-- 1,024 of them fit a word, with room for as many steps
+pub sum-fits : (base : Base) (xs : List Float) (e n : ℕ) → n ≤ 1024 → ((i : ℕ) → i < n → Element (at xs i) × (fixedExponent base (at xs i) ≤ e)) → sum (shareAt base e xs) n + 1024 < 2 ^ 64
 sum-fits base xs e n few all = room (sum (shareAt base e xs) n) (sum-few (shareAt base e xs) n (2 ^ 53 + 1) (λ i h. share-few base (at xs i) (all i h .0) e (all i h .1)))
   where
-    room : (t : ℕ) → t ≤ n * (2 ^ 53 + 1) → t < 2 ^ 64
+    room : (t : ℕ) → t ≤ n * (2 ^ 53 + 1) → t + 1024 < 2 ^ 64
     room t h = omega (arith, mul-le-mul-right (2 ^ 53 + 1) few)
 
 -- with a power of the exponent e among them there are 2 ^ 52 steps and more

@@ -3,6 +3,7 @@ pub mod Source
 pub mod Families
 pub mod Keys
 pub mod Aligning
+pub mod Keeping
 pub mod Inverting
 pub mod Scaled
 pub mod Rounding

@@ -60,7 +60,7 @@ module _ (base : Base) (xs : List Float) (all : Elements xs) (some : 0 < length 
     -- the sum has 64 digits at most, and 53 at least
     fits : s < 2 ^ 64
     unfolding totalOf
-    fits = sum-fits base xs e (length xs) few (λ i h. (all .each i h, top-most i h))
+    fits = omega (arith, sum-fits base xs e (length xs) few (λ i h. (all .each i h, top-most i h)))
 
     digits : rounding.Placed s z
     digits = rounding.placed s (lt-of-lt-of-le (lit< tt) many) fits

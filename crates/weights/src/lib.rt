@@ -3,18 +3,19 @@
 
 ghost use mathlib.Core.Path.{_≡_};
 ghost use mathlib.Core.List.{map};
-ghost use Prim.Native.Nat.{ℕ, _-_, _≤_, _<_, _^_};
+ghost use Prim.Native.Nat.{ℕ, _+_, _-_, _*_, _/_, _%_, _^_, _≤_, _<_};
 ghost use lib.Count.{leadingZeros};
-ghost use lib.ListN.{length};
+ghost use lib.ListN.{length, getD};
 ghost use lib.Ieee.{binary32, ofBits};
 ghost use Rattle.units.specs.Answers.{Ends, listBits};
 ghost use Rattle.units.specs.Tests.{Tells};
 ghost use Rattle.powers.specs.Base.{two, natural};
-ghost use Rattle.powers.specs.Fixed.{fixedExponent, fixedPower};
+ghost use Rattle.powers.specs.Raised.{raised};
+ghost use Rattle.powers.specs.Fixed.{fixedExponent};
 ghost use Rattle.weights.specs.Lists.{at, sum};
 ghost use Rattle.weights.specs.Softmax.{Element, Elements, floatsOf, Softmax};
-ghost use Rattle.weights.specs.Value.{keyOf, patternOf, larger, topKey, powerAt, shareOf, shareAt, inverseOf, factorOf, placesOf, weightBits};
-ghost use Rattle.weights.specs.Weight.{sourceOf, Sized, IsJudged, Scaling, AtMostOne};
+ghost use Rattle.weights.specs.Value.{keyOf, patternOf, larger, topKey, powerAt, shareAt, inverseOf, factorOf, placesOf, unitBits, weightBits};
+ghost use Rattle.weights.specs.Weight.{sourceOf, Sized, IsJudged, keptAt, DigitsIn, Kept, Scaling, AtMostOne};
 
 // The pattern of the element i; of a NaN one of its patterns.
 fn pattern(x: &[f32], p: &[u32], i: usize) -> u32
@@ -99,30 +100,58 @@ fn judge(x: &[f32], p: &[u32]) -> Judged
     Judged { ok: true, top }
 }
 
-// The power of x in steps of 2^(e - 178), rounded up: what is left of its digits, and one step more.
-fn share(natural: bool, x: f32, e: u32) -> u64
-    requires { ⌜ Element x × (fixedExponent natural x ≤ e) ⌝ }
-    ensures { λ s. ⌜ s ≡ shareOf natural e x ⌝ }
+// What is left of the digits 2^32 + q of a power in steps of an exponent that is larger by k, of 2^-20 each. Where none of the digits is lost, a
+// product of 32-bit words takes half of what a shift of 64 bits takes.
+fn left(q: u32, k: u32) -> u64
+    ensures { λ s. ⌜ s ≡ (q + 2 ^ 32) * 1048576 / 2 ^ k ⌝ }
 {
-    let c = powers::fixed_point::argument(natural, x);
-    let k = e - powers::fixed_point::exponent(c);
+    if k <= 20 {
+        let u: u32 = 1048576 >> k;
+        return (q as u64) * (u as u64) + (u as u64) * 4294967296;
+    }
     if k < 64 {
-        ((powers::fixed_point::digits(c) * 1048576) >> k) + 1
+        (q as u64 + 4294967296) >> (k - 20)
     } else {
-        1
+        0
     }
 }
 
-// The sum of all of them.
-fn total(natural: bool, x: &[f32], p: &[u32], e: u32) -> u64
+// Where x is another list, the place of the output i is free until the weights are written, and keeps the digits of its power.
+fn keep(x: &[f32], p: &mut [u32], i: usize, q: u32)
+    requires { ⌜ i < length (now p) ⌝ }
+    ensures { λ _. ⌜ now (p .exit) ≡ keptAt (now (x .entry)) (now (p .entry)) i q ⌝ }
+{
+    if x.len() != 0 {
+        p[i] = q;
+    }
+}
+
+// The digits of the power with the argument a, that of the element i: those that were kept, or raised again.
+fn digits(x: &[f32], p: &[u32], i: usize, a: u64) -> u32
+    requires { ⌜ (i < length (now p)) × ((length (now x) ≡ 0 → ⊥) → getD (now p) i 0 + 2 ^ 32 ≡ raised (a % 2 ^ 32)) ⌝ }
+    ensures { λ q. ⌜ q + 2 ^ 32 ≡ raised (a % 2 ^ 32) ⌝ }
+{
+    if x.len() == 0 {
+        powers::fixed_point::digits(a)
+    } else {
+        p[i]
+    }
+}
+
+// The sum of all powers in steps of 2^(e - 178), each rounded up: what is left of its digits, and one step more. The digits are kept.
+fn total(natural: bool, x: &[f32], p: &mut [u32], e: u32) -> u64
     requires { ⌜ Sized (now x) (now p) × (length (now p) ≤ 1024) × Elements (sourceOf (now x) (now p)) × ((i : ℕ) → i < length (now p) → fixedExponent natural (at (sourceOf (now x) (now p)) i) ≤ e) ⌝ }
-    ensures { λ s. ⌜ s ≡ sum (shareAt natural e (sourceOf (now (x .entry)) (now (p .entry)))) (length (now (p .entry))) ⌝ }
+    ensures { λ s. ⌜ (s ≡ sum (shareAt natural e (sourceOf (now (x .entry)) (now (p .entry)))) (length (now (p .entry)))) × Kept natural (now (x .entry)) (now (p .entry)) (now (p .exit)) ⌝ }
 {
     let n = p.len() as u32;
-    let mut s = 0;
+    let mut s = n as u64;
     let mut j = 0;
     while j < n {
-        s += share(natural, element(x, p, j as usize), e);
+        let i = j as usize;
+        let c = powers::fixed_point::argument(natural, element(x, p, i));
+        let q = powers::fixed_point::digits(c);
+        keep(x, p, i, q);
+        s += left(q, e - powers::fixed_point::exponent(c));
         j += 1;
     }
     s
@@ -146,25 +175,24 @@ fn reciprocal(s: u64, e: u32) -> Factor
     }
 }
 
-// One over the sum of the powers of all elements, the largest of which has the key k.
-fn scale(natural: bool, x: &[f32], p: &[u32], k: u32) -> Factor
+// One over the sum of the powers of all elements, the largest of which has the key k; their digits are kept.
+fn scale(natural: bool, x: &[f32], p: &mut [u32], k: u32) -> Factor
     requires { ⌜ Sized (now x) (now p) × (0 < length (now p)) × (length (now p) ≤ 1024) × Elements (sourceOf (now x) (now p)) × (k ≡ topKey (sourceOf (now x) (now p))) ⌝ }
-    ensures { λ t. ⌜ (t .r ≡ factorOf natural (sourceOf (now (x .entry)) (now (p .entry)))) × (t .c ≡ placesOf natural (sourceOf (now (x .entry)) (now (p .entry)))) ⌝ }
+    ensures { λ t. ⌜ (t .r ≡ factorOf natural (sourceOf (now (x .entry)) (now (p .entry)))) × (t .c ≡ placesOf natural (sourceOf (now (x .entry)) (now (p .entry)))) × Kept natural (now (x .entry)) (now (p .entry)) (now (p .exit)) ⌝ }
 {
     let top = f32::from_bits(unlocked(k));
     let e = powers::fixed_point::exponent(powers::fixed_point::argument(natural, top));
     reciprocal(total(natural, x, p, e), e)
 }
 
-// The pattern of the power of x times the scale, n * 2^(e - 40 - c) least floats, rounded once; below 2^-125 there are 24 digits at most,
-// and the rest is cut off; below 2^-149 nothing is left.
-fn weight(natural: bool, x: f32, r: u32, c: u32) -> u32
-    requires { ⌜ Element x × Scaling r c × AtMostOne (fixedPower natural x) r c ⌝ }
-    ensures { λ b. ⌜ b ≡ weightBits natural r c x ⌝ }
+// The pattern of a power, the digits 2^32 + q with the exponent g, times the scale: n * 2^(g + 75 - c) least floats, rounded once; below 2^-125 there
+// are 24 digits at most, and the rest is cut off; below 2^-149 nothing is left.
+fn weight(q: u32, g: u32, r: u32, c: u32) -> u32
+    requires { ⌜ (g ≤ 218) × Scaling r c × AtMostOne ((q + 2 ^ 32) * 2 ^ g) r c ⌝ }
+    ensures { λ b. ⌜ b ≡ unitBits ((q + 2 ^ 32) * r) (g + 115) c ⌝ }
 {
-    let a = powers::fixed_point::argument(natural, x);
-    let n = powers::fixed_point::digits(a) * (r as u64);
-    let e = powers::fixed_point::exponent(a) + 115;
+    let n = (q as u64 + 4294967296) * (r as u64);
+    let e = g + 115;
     if c < e {
         fixed::nearest_bits(n, e - c)
     } else if c + 40 - e < 64 {
@@ -174,16 +202,17 @@ fn weight(natural: bool, x: f32, r: u32, c: u32) -> u32
     }
 }
 
-// All of them.
+// All of them, of a list whose digits were kept.
 fn fill(natural: bool, x: &[f32], p: &mut [u32], r: u32, c: u32)
-    requires { ⌜ Sized (now x) (now p) × (length (now p) ≤ 1024) × Elements (sourceOf (now x) (now p)) × Scaling r c × AtMostOne (sum (powerAt natural (sourceOf (now x) (now p))) (length (sourceOf (now x) (now p)))) r c ⌝ }
+    requires { ⌜ Sized (now x) (now p) × (length (now p) ≤ 1024) × Elements (sourceOf (now x) (now p)) × Scaling r c × AtMostOne (sum (powerAt natural (sourceOf (now x) (now p))) (length (sourceOf (now x) (now p)))) r c × DigitsIn natural (now x) (now p) ⌝ }
     ensures { λ _. ⌜ now (p .exit) ≡ map (weightBits natural r c) (sourceOf (now (x .entry)) (now (p .entry))) ⌝ }
 {
     let n = p.len() as u32;
     let mut k = 0;
     while k < n {
         let i = k as usize;
-        p[i] = weight(natural, element(x, p, i), r, c);
+        let a = powers::fixed_point::argument(natural, element(x, p, i));
+        p[i] = weight(digits(x, p, i, a), powers::fixed_point::exponent(a), r, c);
         k += 1;
     }
 }

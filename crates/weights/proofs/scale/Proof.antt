@@ -39,11 +39,11 @@ exponent c =
     c .exponent .ensures ∙ exponent-of base (ofBits binary32 (c .before .before .unlocked .result)) (c .before .argument .ensures) ∙ ap (fixedExponent base) (top (c .before .before))
 
 -- and the sum
-sum-is : (c : tie.After-total) → c .total .result ≡ totalOf (c .before .before .before .before .before .before .args .natural) (xs (c .before .before .before .before .before .before))
+sum-is : (c : tie.After-total) → c .total .result ≡ totalOf (c .before .before .before .before .before .before .before .args .natural) (xs (c .before .before .before .before .before .before .before))
 unfolding totalOf
 sum-is c =
-    let start = c .before .before .before .before .before .before in
-    c .total .ensures ∙ ap₂ (λ (e n : ℕ). sum (shareAt (start .args .natural) e (xs start)) n) (exponent (c .before)) (sym (start .pre .0))
+    let start = c .before .before .before .before .before .before .before in
+    c .total .ensures .0 ∙ ap₂ (λ (e n : ℕ). sum (shareAt (start .args .natural) e (xs start)) n) (exponent (c .before .before)) (sym (start .pre .0))
 
 unlocked-requires : tie.Need-unlocked-requires
 unlocked-requires c κs = search needs
@@ -59,21 +59,26 @@ exponent-requires c κs = search needs
 
 total-requires : tie.Need-total-requires
 total-requires c κs =
-    let start = c .before .before .before .before .before in
-    (start .pre .0, start .pre .2, start .pre .3, λ i h. le-trans (top-most (start .args .natural) (xs start) (start .pre .3) (some start) i (lt-of-lt-of-le h (le-of-eq (sym (start .pre .0))))) (le-of-eq (sym (exponent c))))
+    let start = c .before .before .before .before .before .before in
+    (start .pre .0, start .pre .2, start .pre .3, λ i h. le-trans (top-most (start .args .natural) (xs start) (start .pre .3) (some start) i (lt-of-lt-of-le h (le-of-eq (sym (start .pre .0))))) (le-of-eq (sym (exponent (c .before)))))
 
 reciprocal-requires : tie.Need-reciprocal-requires
 reciprocal-requires c κs =
-    let start = c .before .before .before .before .before .before in
-    (le-trans (many (start .args .natural) (xs start) (start .pre .3) (some start)) (le-of-eq (sym (sum-is c))), le-trans (top-low (start .args .natural) (xs start) (start .pre .3) (some start)) (le-of-eq (sym (exponent (c .before)))))
+    let t = c .before .before in
+    let start = t .before .before .before .before .before .before .before in
+    (le-trans (many (start .args .natural) (xs start) (start .pre .3) (some start)) (le-of-eq (sym (sum-is t))), le-trans (top-low (start .args .natural) (xs start) (start .pre .3) (some start)) (le-of-eq (sym (exponent (t .before .before)))))
+
+same-length : tie.Need-same-length
+same-length c = c .before .before .before .total .ensures .1 .same
 
 returns : tie.Need-returns
 unfolding factorOf placesOf
 returns c =
-    let t = c .before in (
+    let t = c .before .before .before in (
       c .reciprocal .ensures .0 ∙ ap (λ (s : ℕ). inverseOf s (leadingZeros 64 s)) (sum-is t),
-      c .reciprocal .ensures .1 ∙ ap₂ (λ (e s : ℕ). e - leadingZeros 64 s) (exponent (t .before)) (sum-is t),
+      c .reciprocal .ensures .1 ∙ ap₂ (λ (e s : ℕ). e - leadingZeros 64 s) (exponent (t .before .before)) (sum-is t),
+      t .total .ensures .1,
     )
 
 pub scale-spec : {M : Type 1} → statement M
-scale-spec = tie.close (tie.spec unlocked-requires float-from-bits-top argument-requires exponent-requires total-requires reciprocal-requires returns)
+scale-spec = tie.close (tie.spec unlocked-requires float-from-bits-top argument-requires exponent-requires total-requires reciprocal-requires same-length returns)

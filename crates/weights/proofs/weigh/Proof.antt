@@ -1,7 +1,7 @@
 -- `weights::weigh` meets its contract: each return is an accepted list with its weights, or a list that the tests show is refused. Assumes nothing.
 use borrow.Author.Needs.{needs}
 use borrow.Author.Tests.{not-true, not-false}
-use mathlib.Core.Path.{_≡_, sym, ap₂, _∙_}
+use mathlib.Core.Path.{_≡_, sym, ap, ap₂, _∙_}
 use mathlib.Core.Bool.{true}
 use mathlib.Core.List.{List, map}
 use Prim.Native.Nat.{ℕ, _≤_}
@@ -65,12 +65,14 @@ scale-requires c κs =
 
 fill-requires : tie.Need-fill-requires
 fill-requires c κs =
-    let t = c .before .before .before in
+    let s = c .before .before .before in
+    let t = s .before .before in
     let e = t .before .before .before .before in
     let start = e .before .before .before .before in
     let a = accepts t in
-    let s = c .before .scale .ensures in
-    rw (s .0, s .1) (start .pre, e .if2 .left, a .elements, scaling (start .args .natural) (xs start) (a .elements) (a .lengths .least) (a .lengths .most), inverse (start .args .natural) (xs start) (a .elements) (a .lengths .least) (a .lengths .most) .most)
+    let f = s .scale .ensures in
+    let k = f .2 in
+    rw (f .0, f .1, k .source) (start .pre ∙ sym (k .same), le-trans (le-of-eq (k .same)) (e .if2 .left), a .elements, scaling (start .args .natural) (xs start) (a .elements) (a .lengths .least) (a .lengths .most), inverse (start .args .natural) (xs start) (a .elements) (a .lengths .least) (a .lengths .most) .most, k .digits)
 
 same-length-2 : tie.Need-same-length-2
 same-length-2 c = search needs
@@ -78,10 +80,12 @@ same-length-2 c = search needs
 returns-4 : tie.Need-returns-4
 returns-4 c =
     let f = c .before .before in
-    let s = f .before .before in
+    let s = f .before .before .before .before in
     let t = s .before .before in
     let start = t .before .before .before .before .before .before .before .before in
-    weighed (start .args .natural) (xs start) (length (start .args .p .now)) (accepts t) (f .fill .ensures ∙ ap₂ (λ (r k : ℕ). map (weightBits (start .args .natural) r k) (xs start)) (s .scale .ensures .0) (s .scale .ensures .1))
+    let e = s .scale .ensures in
+    weighed (start .args .natural) (xs start) (length (start .args .p .now)) (accepts t)
+    (f .fill .ensures ∙ ap (map _) (e .2 .source) ∙ ap₂ (λ (r k : ℕ). map (weightBits (start .args .natural) r k) (xs start)) (e .0) (e .1))
 
 pub weigh-spec : {M : Type 1} → statement M
 weigh-spec = tie.close (tie.spec returns returns-2 judge-requires same-length returns-3 scale-requires fill-requires same-length-2 returns-4)
