@@ -3,6 +3,7 @@
 # make every   all 2^32 patterns through each function of one argument, ONLY=ear_exp2 for one of
 #              them, and all floats of three channels through each loudness map (some minutes)
 # make others  all 2^32 patterns through newlib's and glibc's functions, judged as ours are (some minutes)
+# make errors  draws docs/errors/*.svg, the worst errors over each function's range, of what `every` and `others` have kept
 # make bench   speed beside newlib's and glibc's functions, and beside a loop in C; writes docs/bench.txt
 # make filter  64 taps over a second of sound, examples/filter.c: its error beside the promise, its speed beside a plain loop
 # make hear    speech by espeak-ng as currents: the electrodogram, docs/electrodogram.svg, and how far it is from the exact path's
@@ -24,7 +25,7 @@ TEST_FLAGS = -std=c11 -D_POSIX_C_SOURCE=200809L $(CFLAGS) -pthread -Iinclude $(F
 vpath %.c $(FOLDERS)
 CRATES = crates.txt $(shell find crates -type f)
 
-.PHONY: all test tests every others hear report bench filter times clean tools-for-make mpfr
+.PHONY: all test tests every others errors hear report bench filter times clean tools-for-make mpfr
 .DELETE_ON_ERROR:
 
 all: build/roots build/growth.svg build/filter build/electrodogram build/earmath
@@ -48,6 +49,9 @@ every: build/tests/every build/tests/loudness_every
 # They keep fewer promises, so that the verdict is a failure here: what counts is the table.
 others: build/others
 	-build/others $(ONLY)
+
+errors:
+	tools/errors
 
 build/newlib/newlib.o: bench/newlib
 	bench/newlib

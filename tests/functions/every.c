@@ -16,6 +16,7 @@
 #include "blocks.h"
 #include TABLE
 #include "report.h"
+#include "stretches.h"
 
 struct worst {
     double error;
@@ -26,6 +27,7 @@ struct share {
     const struct function *f;
     struct tally tally;
     struct worst ulps, relative, absolute;
+    struct stretches stretches;
 };
 
 /* Of equal errors the least pattern, so that two runs print the same one. */
@@ -43,6 +45,12 @@ static double spacing_at(double value)
     return ldexp(1, (exponent < -125 ? -125 : exponent) - 24);
 }
 
+/* A bound on the absolute error alone: relatively, and in ulp, a result near zero may be anything. */
+static bool absolute_only(const struct function *f)
+{
+    return f->right == near_wave || f->right == near_wave_of_pi;
+}
+
 static void measure(struct share *s, struct deed d)
 {
     float x = float_of(d.x);
@@ -52,6 +60,7 @@ static void measure(struct share *s, struct deed d)
     double error = fabs(d.result - exact), relative = error / fabs(exact);
     keep_worse(&s->relative, relative, d.x);
     keep_worse(&s->absolute, error, d.x);
+    keep_in_stretch(&s->stretches, s->f, x, absolute_only(s->f) ? error : relative);
     /* for normal results an error in ulp is below 2^24 times the relative one:
      * a test that spares most of the calls of frexp and ldexp */
     if (relative * 0x1p24 < s->ulps.error && fabs(exact) >= 0x1p-126)
@@ -84,6 +93,7 @@ static void add(struct share *sum, const struct share *s)
     keep_worse(&sum->ulps, s->ulps.error, s->ulps.at);
     keep_worse(&sum->relative, s->relative.error, s->relative.at);
     keep_worse(&sum->absolute, s->absolute.error, s->absolute.at);
+    add_stretches(&sum->stretches, &s->stretches);
 }
 
 static void say(const struct share *s)
@@ -105,13 +115,9 @@ static struct share every(const struct function *f)
     for (int i = 1; i < threads(); i++)
         add(&shares[0], &shares[i]);
     say(&shares[0]);
+    if (!write_stretches(&shares[0].stretches, f, absolute_only(f)))
+        group(false, "%s: build/errors is not a folder to write to", f->name);
     return shares[0];
-}
-
-/* A bound on the absolute error alone: relatively, and in ulp, a result near zero may be anything. */
-static bool absolute_only(const struct function *f)
-{
-    return f->right == near_wave || f->right == near_wave_of_pi;
 }
 
 /* The worst errors in powers of two, each with its input's pattern. */

@@ -39,10 +39,10 @@ OTHER(newlib_exponential, -87.0f, 88.0f, newlib_expf(x))
 OTHER(glibc_exponential, -87.0f, 88.0f, expf(x))
 OTHER(newlib_logarithm, 0x1p-126f, FLT_MAX, newlib_log2f(x))
 OTHER(glibc_logarithm, 0x1p-126f, FLT_MAX, log2f(x))
-OTHER(newlib_sine, -8192.0f, 8192.0f, newlib_sinf(x))
-OTHER(glibc_sine, -8192.0f, 8192.0f, sinf(x))
-OTHER(newlib_cosine, -8192.0f, 8192.0f, newlib_cosf(x))
-OTHER(glibc_cosine, -8192.0f, 8192.0f, cosf(x))
+OTHER(newlib_sine, -FLT_MAX, FLT_MAX, newlib_sinf(x))
+OTHER(glibc_sine, -FLT_MAX, FLT_MAX, sinf(x))
+OTHER(newlib_cosine, -FLT_MAX, FLT_MAX, newlib_cosf(x))
+OTHER(glibc_cosine, -FLT_MAX, FLT_MAX, cosf(x))
 
 static const struct function functions[] = {
     /* name, call, accepted from, to, exact value, check, bound, order, twin */
@@ -56,10 +56,10 @@ static const struct function functions[] = {
     {"glibc expf", glibc_exponential, -87.0f, 88.0f, exp, near_exponential, 515 * 0x1p-33, RISES, NULL},
     {"newlib log2f", newlib_logarithm, 0x1p-126f, FLT_MAX, binary_logarithm, near_logarithm, 33 * 0x1p-29, RISES, NULL},
     {"glibc log2f", glibc_logarithm, 0x1p-126f, FLT_MAX, binary_logarithm, near_logarithm, 33 * 0x1p-29, RISES, NULL},
-    {"newlib sinf", newlib_sine, -8192.0f, 8192.0f, sin, near_wave, 17 * 0x1p-29, ANY_ORDER, NULL},
-    {"glibc sinf", glibc_sine, -8192.0f, 8192.0f, sin, near_wave, 17 * 0x1p-29, ANY_ORDER, NULL},
-    {"newlib cosf", newlib_cosine, -8192.0f, 8192.0f, cos, near_wave, 17 * 0x1p-29, ANY_ORDER, NULL},
-    {"glibc cosf", glibc_cosine, -8192.0f, 8192.0f, cos, near_wave, 17 * 0x1p-29, ANY_ORDER, NULL},
+    {"newlib sinf", newlib_sine, -FLT_MAX, FLT_MAX, sin, near_wave, 17 * 0x1p-29, ANY_ORDER, NULL},
+    {"glibc sinf", glibc_sine, -FLT_MAX, FLT_MAX, sin, near_wave, 17 * 0x1p-29, ANY_ORDER, NULL},
+    {"newlib cosf", newlib_cosine, -FLT_MAX, FLT_MAX, cos, near_wave, 17 * 0x1p-29, ANY_ORDER, NULL},
+    {"glibc cosf", glibc_cosine, -FLT_MAX, FLT_MAX, cos, near_wave, 17 * 0x1p-29, ANY_ORDER, NULL},
 };
 
 enum { FUNCTIONS = sizeof functions / sizeof functions[0] };
