@@ -10,7 +10,7 @@ ghost use Rattle.units.specs.Tests.{Tells};
 ghost use Rattle.loudness.specs.Map.{Channel};
 ghost use Rattle.loudness.specs.Knee.{BentChannel};
 ghost use Rattle.loudness.specs.Segment.{Segment, Levelled};
-ghost use Rattle.loudness.specs.Words.{Passes, BentPasses, Past, Answered, Chosen, IsLine, riseIn, upperOf, scaled, stepsIn, factorOf, fiveWords, segmentWords};
+ghost use Rattle.loudness.specs.Words.{Passes, BentPasses, Past, Answered, Chosen, IsLine, thresholdOf, riseIn, upperOf, scaled, stepsIn, factorOf, fiveWords, segmentWords};
 ghost use Rattle.loudness.specs.Fitted.{straightWords, bentWords, themselves, fittedOf, fittedKnee, Fits, Step};
 
 // What the words of a segment sum to, modulo 2^32.
@@ -49,12 +49,26 @@ fn level(a: f32) -> u32
     0xffff_ffff
 }
 
+// The threshold that stands in a word of steps.
+fn threshold(s: u32) -> u32
+    ensures { λ t. ⌜ (t ≡ thresholdOf s) × (t ≤ 1023) ⌝ }
+{
+    s / 4194304
+}
+
+// Two words as one.
+fn joined(low: u32, high: u32) -> u64
+    ensures { λ r. ⌜ r ≡ low + high * 4294967296 ⌝ }
+{
+    low as u64 + high as u64 * 4294967296
+}
+
 // The rise of a pattern above the lower level of the segment; below that it wraps.
 fn rise(w: &[u32], p: u32) -> u64
     requires { ⌜ (length (now w) ≡ 6) × (p < 2 ^ 31) ⌝ }
     ensures { λ r. ⌜ r ≡ riseIn (now (w .entry)) p ⌝ }
 {
-    let low = w[1] as u64 + w[2] as u64 * 4294967296;
+    let low = joined(w[1], w[2]);
     std::num::wrapping_add_u64(logs::fixed_bits(p), low)
 }
 
@@ -95,7 +109,7 @@ fn bent_passes(w: &[u32]) -> bool
 {
     if passes(&w[..6]) {
         if passes(&w[6..]) {
-            return w[0] / 4194304 + w[0] / 4096 % 1024 <= w[6] / 4194304;
+            return threshold(w[0]) + w[0] / 4096 % 1024 <= threshold(w[6]);
         }
         return false;
     }
@@ -118,7 +132,7 @@ fn straight(w: &[u32], a: f32, out: &mut u32) -> u32
     if passes(w) {
         let p = level(a);
         if p <= 0x3f80_0000 {
-            *out = w[0] / 4194304 + steps_in(w, rise(w, p));
+            *out = threshold(w[0]) + steps_in(w, rise(w, p));
             return 0;
         }
         return 1;

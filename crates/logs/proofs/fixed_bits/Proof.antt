@@ -53,13 +53,13 @@ joined : (b p e d h w v : ℕ) → b < 2147483648 → e * 8388608 < 4294967296 �
     → v ≡ e * 18014398509481984 + b * p - e * 8388608 * p → v < 18446744073709551616 → w ≡ (d * p + h * 4294967296) % 18446744073709551616 → w ≡ v
 joined b p e d h w v lb lk lp ld lh wraps u borrow value few sum = elim (le-or-lt (e * 8388608) b) [
   | inl l ↦
-    let up = u .above l in
-    let q : (d + e * 8388608) * p ≡ b * p = ap (λ (x : ℕ). x * p) (omega arith) in
-    omega arith
+      let up = u .above l in
+      let q : (d + e * 8388608) * p ≡ b * p = ap (λ (x : ℕ). x * p) (omega arith) in
+      omega arith
   | inr l ↦
-    let up = u .below l in
-    let q : (d + e * 8388608) * p ≡ (b + 4294967296) * p = ap (λ (x : ℕ). x * p) (omega arith) in
-    omega arith
+      let up = u .below l in
+      let q : (d + e * 8388608) * p ≡ (b + 4294967296) * p = ap (λ (x : ℕ). x * p) (omega arith) in
+      omega arith
 ]
 
 returns : tie.Need-returns

@@ -2,6 +2,7 @@
 use borrow.Author.Needs.{needs}
 use mathlib.Core.Path.{_≡_, sym}
 use mathlib.Core.Bool.{true≢false}
+use Prim.Native.Nat.{ℕ, _+_, _≤_}
 use native.Mathlib.Nat.{not-le-of-lt}
 use native.Mathlib.Omega.{arith}
 use borrow.Author.Tests.{leb-true, leb-false}
@@ -32,20 +33,42 @@ part-passes-end c = search needs
 passes-requires-2 : tie.Need-passes-requires-2
 passes-requires-2 c κs = search needs
 
+shared-slice-read-threshold : tie.Need-shared-slice-read-threshold
+shared-slice-read-threshold c = search needs
+
+threshold-requires : tie.Need-threshold-requires
+threshold-requires c κs = search needs
+
 shared-slice-read-result : tie.Need-shared-slice-read-result
 shared-slice-read-result c = search needs
 
-shared-slice-read-result-2 : tie.Need-shared-slice-read-result-2
-shared-slice-read-result-2 c = search needs
+add-result : tie.Need-add-result
+add-result c = search needs
+
+shared-slice-read-threshold-2 : tie.Need-shared-slice-read-threshold-2
+shared-slice-read-threshold-2 c = search needs
+
+threshold-requires-2 : tie.Need-threshold-requires-2
+threshold-requires-2 c κs = search needs
 
 returns : tie.Need-returns
 returns c =
-    let u = c .before .before in
+    let t = c .before .before .before in
+    let u = t .before .before in
     let v = u .before .before .before in
+    let low = t .threshold .ensures .0 in
+    let high = c .threshold2 .ensures .0 in
     record {
-      if-true = λ e. record { lower = v .before .passes .ensures .if-true (v .if1 .taken); upper = rw (rest (v .before .before .before .before .args .w .now)) at (u .before .passes2 .ensures .if-true (u .if2 .taken)); order = leb-true _ _ e };
-      if-false = λ e h. not-le-of-lt (leb-false _ _ e) (h .order);
+      if-true = λ e. record {
+        lower = v .before .passes .ensures .if-true (v .if1 .taken);
+        upper = rw (rest (v .before .before .before .before .args .w .now)) at (u .before .passes2 .ensures .if-true (u .if2 .taken));
+        order = in-order _ low high (leb-true _ _ e);
+      };
+      if-false = λ e h. not-le-of-lt (leb-false _ _ e) (in-order _ (sym low) (sym high) (h .order));
     }
+  where
+    in-order : {x y t s : ℕ} (k : ℕ) → t ≡ x → s ≡ y → t + k ≤ s → x + k ≤ y
+    in-order k e f l = omega arith
 
 returns-2 : tie.Need-returns-2
 returns-2 c = record { if-true = λ e. absurd (true≢false (sym e)); if-false = λ e h. c .before .passes2 .ensures .if-false (c .if2 .left) (rw (rest (c .before .before .before .before .before .before .before .args .w .now)) (h .upper)) }
@@ -63,8 +86,12 @@ bent-passes-spec =
     part-passes-start
     part-passes-end
     passes-requires-2
+    shared-slice-read-threshold
+    threshold-requires
     shared-slice-read-result
-    shared-slice-read-result-2
+    add-result
+    shared-slice-read-threshold-2
+    threshold-requires-2
     returns
     returns-2
     returns-3)

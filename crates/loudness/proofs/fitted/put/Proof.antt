@@ -34,9 +34,6 @@ sum-requires c κs = search needs
 wrapping-sub-u32-requires : tie.Need-wrapping-sub-u32-requires
 wrapping-sub-u32-requires c κs = search needs
 
-slice-write-w-6 : tie.Need-slice-write-w-6
-slice-write-w-6 c = simp length-set (omega arith)
-
 same-length : tie.Need-same-length
 same-length c = search needs
 
@@ -50,7 +47,7 @@ unfolding fiveWords
 returns c =
     let u = c .before in
     let s = u .before .before in
-    all-set (s .args .w .now) (s .pre) _ _ _ _ _ _ _ ∙ ap (λ (g : ℕ). s .args .b ∷ s .args .m ∷ s .args .s ∷ s .args .l ∷ s .args .h ∷ s .args .r ∷ g ∷ []) (check _ _ _ (u .sum .ensures) (c .wrapping-sub-u32 .ensures) (search needs))
+    all-set (s .args .w .now) (s .pre) _ _ _ _ _ _ ∙ ap (λ (g : ℕ). s .args .s ∷ s .args .l ∷ s .args .h ∷ s .args .p ∷ s .args .r ∷ g ∷ []) (check _ _ _ (u .sum .ensures) (c .wrapping-sub-u32 .ensures) (search needs))
 
 pub put-spec : {M : Type 1} → statement M
 put-spec =
@@ -61,7 +58,6 @@ put-spec =
     slice-write-w-3
     slice-write-w-4
     slice-write-w-5
-    slice-write-w-6
     sum-requires
     wrapping-sub-u32-requires
     slice-write-w-6
