@@ -17,7 +17,7 @@ use Rattle.logs.proofs.Reduction.{octave, bits-few}
 use Rattle.loudness.specs.Map.{Envelope}
 use Rattle.loudness.specs.Value.{riseOf, placesOf, wordOf, nearestStep, stepsOf, stepOf}
 use Rattle.loudness.specs.Segment.{Segment, sizeBits}
-use Rattle.loudness.specs.Words.{thresholdOf, rangeOf, comfortOf, Passes, riseIn, upperOf, scaled, stepsIn, stepIn, spanOf, factorOf, stepsWord, negated, fiveWords, segmentWords}
+use Rattle.loudness.specs.Words.{thresholdOf, rangeOf, comfortOf, Passes, riseTo, riseIn, upperOf, scaled, stepsIn, stepIn, spanOf, factorOf, stepsWord, negated, fiveWords, segmentWords}
 use Rattle.loudness.proofs.Known.{Sound, low-sound, high-sound, accepted, rises}
 use Rattle.loudness.proofs.Words.{places, full, word-most, floors}
 use Rattle.loudness.proofs.Growth.{step-quiet, step-loud, step-between, inside, between-sound, few, b≤m, span-long, span-few, rise-most}
@@ -170,7 +170,7 @@ module _ (b m : Float) (t c : ℕ) (sg : Segment b m t c) where
 
   module _ (p : ℕ) (lp : p < 2147483648) where
     rise-above : fixedOf b ≤ fixedBits p → riseIn w p ≡ fixedBits p - fixedOf b
-    unfolding segmentWords fiveWords riseIn negated fixedOf
+    unfolding segmentWords fiveWords riseTo negated fixedOf
     rise-above l = wraps (fixedBits p) (fixedBits (toBits binary32 b)) l (short p lp)
       where
         wraps : (x y : ℕ) → y ≤ x → x ≤ 4611686018427387904
@@ -178,7 +178,7 @@ module _ (b m : Float) (t c : ℕ) (sg : Segment b m t c) where
         wraps x y a b = omega arith
 
     rise-below : fixedBits p < fixedOf b → fixedOf b ≤ 4611686018427387904 → 9223372036854775808 ≤ riseIn w p
-    unfolding segmentWords fiveWords riseIn negated fixedOf
+    unfolding segmentWords fiveWords riseTo negated fixedOf
     rise-below l u = wraps (fixedBits p) (fixedBits (toBits binary32 b)) l u
       where
         wraps : (x y : ℕ) → x < y → y ≤ 4611686018427387904

@@ -13,7 +13,7 @@ use Rattle.units.proofs.Answers.{written, untouched}
 use Rattle.loudness.specs.Map.{Channel, Envelope, Loudness}
 use Rattle.loudness.specs.Segment.{Segment, sizeBits}
 use Rattle.loudness.specs.Words.{Passes, BentPasses, Answered, Chosen, stepIn, bentIn, fiveWords, segmentWords}
-use Rattle.loudness.specs.Fitted.{fittedOf, fittedKnee, themselves, Fits, Changed, Step}
+use Rattle.loudness.specs.Fitted.{fittedOf, fittedKnee, asTheyAre, Fits, Changed, Step}
 use Rattle.loudness.proofs.Promise.{segment, promised, out-of-range}
 use Rattle.loudness.proofs.Bent as bends
 use Rattle.loudness.proofs.Bending.{bent-below, bent-above, knee-passes, same-bent, bent-bounded, changed-knee}
@@ -228,11 +228,11 @@ module _ (w : List ℕ) (a : Float) (at : ℕ) (ch : Chosen w a at) {before : �
 
 -- ---- how a call of `fit` or `fit_knee` ends
 module _ {Good : Type 0} {words : List ℕ} {n : ℕ} {before : List ℕ} where
-  pub other-number : ¬ (length before ≡ n) → Ends themselves (Fits Good words n (length before)) 2 before before
+  pub other-number : ¬ (length before ≡ n) → Ends asTheyAre (Fits Good words n (length before)) 2 before before
   other-number h = untouched 2 [] (λ z. omega arith) (record { bad-length = λ k. refl; bad-channel = λ k. absurd (h k); success = λ k. absurd (h k); value = λ k. absurd (h k) })
 
-  pub no-channel : length before ≡ n → ¬ Good → Ends themselves (Fits Good words n (length before)) 4 before before
+  pub no-channel : length before ≡ n → ¬ Good → Ends asTheyAre (Fits Good words n (length before)) 4 before before
   no-channel s g = untouched 4 [] (λ z. omega arith) (record { bad-length = λ k. absurd (k s); bad-channel = λ k h. refl; success = λ k h. absurd (g h); value = λ k h. absurd (g h) })
 
-  pub fitted : {after : List ℕ} → length before ≡ n → Good → after ≡ words → Ends themselves (Fits Good words n (length before)) 0 before after
+  pub fitted : {after : List ℕ} → length before ≡ n → Good → after ≡ words → Ends asTheyAre (Fits Good words n (length before)) 0 before after
   fitted s g e = written words (record { bad-length = λ k. absurd (k s); bad-channel = λ k h. absurd (h g); success = λ k h. refl; value = λ k h. refl }) e

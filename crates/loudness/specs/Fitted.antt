@@ -16,9 +16,9 @@ straightWords = 6
 abbrev pub bentWords : ℕ
 bentWords = 12
 
--- a list of words is its own pattern
-abbrev pub themselves : List ℕ → List ℕ
-themselves w = w
+-- a list of numbers is its own pattern
+abbrev pub asTheyAre : List ℕ → List ℕ
+asTheyAre w = w
 
 -- the words of a straight channel, and of a bent one: those of its two segments
 abbrev pub fittedOf : (b m : Float) (t c : ℕ) → List ℕ

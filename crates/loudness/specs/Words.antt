@@ -38,9 +38,13 @@ checkSum = 3941264106
 abbrev pub Passes : List ℕ → Type 0
 Passes w = total w % 4294967296 ≡ checkSum
 
--- the rise of the pattern p above b; below b it wraps
-unfoldable pub riseIn : List ℕ → ℕ → ℕ
-riseIn w p = (fixedBits p + (getD w 1 0 + getD w 2 0 * 4294967296)) % 18446744073709551616
+-- the rise of the logarithm x above that of b; below that it wraps
+unfoldable pub riseTo : List ℕ → ℕ → ℕ
+riseTo w x = (x + (getD w 1 0 + getD w 2 0 * 4294967296)) % 18446744073709551616
+
+-- the rise of the pattern p
+abbrev pub riseIn : List ℕ → ℕ → ℕ
+riseIn w p = riseTo w (fixedBits p)
 
 -- the upper half of n times s
 unfoldable pub upperOf : ℕ → ℕ → ℕ

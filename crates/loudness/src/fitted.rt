@@ -10,8 +10,8 @@ ghost use Rattle.units.specs.Tests.{Tells};
 ghost use Rattle.loudness.specs.Map.{Channel};
 ghost use Rattle.loudness.specs.Knee.{BentChannel};
 ghost use Rattle.loudness.specs.Segment.{Segment, Levelled};
-ghost use Rattle.loudness.specs.Words.{Passes, BentPasses, Past, Answered, Chosen, IsLine, thresholdOf, riseIn, upperOf, scaled, stepsIn, factorOf, fiveWords, segmentWords};
-ghost use Rattle.loudness.specs.Fitted.{straightWords, bentWords, themselves, fittedOf, fittedKnee, Fits, Step};
+ghost use Rattle.loudness.specs.Words.{Passes, BentPasses, Past, Answered, Chosen, IsLine, thresholdOf, riseTo, upperOf, scaled, stepsIn, factorOf, fiveWords, segmentWords};
+ghost use Rattle.loudness.specs.Fitted.{straightWords, bentWords, asTheyAre, fittedOf, fittedKnee, Fits, Step};
 
 // What the words of a segment sum to, modulo 2^32.
 const CHECK: u32 = 0xeaea_eaea;
@@ -63,13 +63,13 @@ fn joined(low: u32, high: u32) -> u64
     low as u64 + high as u64 * 4294967296
 }
 
-// The rise of a pattern above the lower level of the segment; below that it wraps.
-fn rise(w: &[u32], p: u32) -> u64
-    requires { ⌜ (length (now w) ≡ 6) × (p < 2 ^ 31) ⌝ }
-    ensures { λ r. ⌜ r ≡ riseIn (now (w .entry)) p ⌝ }
+// The rise of a logarithm above that of the lower level of the segment; below that it wraps.
+fn rise(w: &[u32], x: u64) -> u64
+    requires { ⌜ length (now w) ≡ 6 ⌝ }
+    ensures { λ r. ⌜ r ≡ riseTo (now (w .entry)) x ⌝ }
 {
     let low = joined(w[1], w[2]);
-    std::num::wrapping_add_u64(logs::fixed_bits(p), low)
+    std::num::wrapping_add_u64(x, low)
 }
 
 // The upper half of n times s, of any numbers.
@@ -121,7 +121,7 @@ fn past(w: &[u32], p: u32) -> bool
     requires { ⌜ (length (now w) ≡ 12) × (p < 2 ^ 31) ⌝ }
     ensures { λ r. ⌜ Tells (Past (now (w .entry)) p) r ⌝ }
 {
-    rise(&w[6..], p) < 0x8000_0000_0000_0000
+    rise(&w[6..], logs::fixed_bits(p)) < 0x8000_0000_0000_0000
 }
 
 // The step of an envelope value by the words of a segment; code 4 where they do not pass, code 1 where a is no envelope value.
@@ -132,7 +132,7 @@ fn straight(w: &[u32], a: f32, out: &mut u32) -> u32
     if passes(w) {
         let p = level(a);
         if p <= 0x3f80_0000 {
-            *out = threshold(w[0]) + steps_in(w, rise(w, p));
+            *out = threshold(w[0]) + steps_in(w, rise(w, logs::fixed_bits(p)));
             return 0;
         }
         return 1;
@@ -243,7 +243,7 @@ fn write(b: f32, m: f32, t: u32, c: u32, w: &mut [u32])
 
 // The words of the channel b, m, t, c of a stimulator with the steps 0 to top; code 2 for another number of words, code 4 where they make no channel.
 pub fn fit(top: u32, b: f32, m: f32, t: u32, c: u32, w: &mut [u32]) -> u32
-    ensures { λ code. ⌜ Ends themselves (Fits (Channel top b m t c) (fittedOf b m t c) straightWords (length (now (w .entry)))) code (now (w .entry)) (now (w .exit)) ⌝ }
+    ensures { λ code. ⌜ Ends asTheyAre (Fits (Channel top b m t c) (fittedOf b m t c) straightWords (length (now (w .entry)))) code (now (w .entry)) (now (w .exit)) ⌝ }
 {
     if w.len() != 6 {
         return 2;
@@ -257,7 +257,7 @@ pub fn fit(top: u32, b: f32, m: f32, t: u32, c: u32, w: &mut [u32]) -> u32
 
 // The words of the bent channel b, k, m, t, s, c, likewise: those of its two segments.
 pub fn fit_knee(top: u32, b: f32, k: f32, m: f32, t: u32, s: u32, c: u32, w: &mut [u32]) -> u32
-    ensures { λ code. ⌜ Ends themselves (Fits (BentChannel top b k m t s c) (fittedKnee b k m t s c) bentWords (length (now (w .entry)))) code (now (w .entry)) (now (w .exit)) ⌝ }
+    ensures { λ code. ⌜ Ends asTheyAre (Fits (BentChannel top b k m t s c) (fittedKnee b k m t s c) bentWords (length (now (w .entry)))) code (now (w .entry)) (now (w .exit)) ⌝ }
 {
     if w.len() != 12 {
         return 2;
