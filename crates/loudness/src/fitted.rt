@@ -32,7 +32,8 @@ fn passes(w: &[u32]) -> bool
     std::num::wrapping_add_u32(sum(w[0], w[1], w[2], w[3], w[4]), w[5]) == CHECK
 }
 
-// The pattern of an envelope value, with 0 for -0; above that of 1 for any other float.
+// The pattern of an envelope value, with 0 for -0; above that of 1 for any other float. 0 is written as a remainder: of a constant the compiler would look
+// for the row of the logarithm by a jump.
 fn level(a: f32) -> u32
     ensures { λ p. ⌜ Levelled a p ⌝ }
 {
@@ -40,11 +41,12 @@ fn level(a: f32) -> u32
         return 0xffff_ffff;
     }
     let p = f32::to_bits(a);
+    let q = p % 2147483648;
     if p <= 0x3f80_0000 {
-        return p;
+        return q;
     }
     if p == 0x8000_0000 {
-        return 0;
+        return q;
     }
     0xffff_ffff
 }

@@ -1,6 +1,6 @@
 -- `loudness::fitted::level` meets its contract. Assumes nothing.
-use mathlib.Core.Path.{_≡_, sym, subst}
-use Prim.Native.Nat.{ℕ, _≤_, _<_}
+use mathlib.Core.Path.{_≡_, sym, _∙_, subst}
+use Prim.Native.Nat.{ℕ, _%_, _≤_, _<_}
 use native.Mathlib.Omega.{arith}
 use native.Mathlib.Nat.{not-le-of-lt}
 use lib.Dec.{T}
@@ -39,13 +39,20 @@ returns-2 c =
     let s = c .before .before in
     let l = c .if2 .taken in
     let e = sym (other-bits (s .args .a) (λ h. absurd (omega arith))) in
-    sized (s .args .a) _ (good s (rw e at l)) e l
+    sized (s .args .a) _ (good s (rw e at l)) (same _ l ∙ e) (omega arith)
+  where
+    same : (p : ℕ) → p ≤ 1065353216 → p % 2147483648 ≡ p
+    same p l = omega arith
 
 returns-3 : tie.Need-returns-3
 returns-3 c =
     let s = c .before .before .before in
     let e = sym (set-bits (s .args .a) (c .if3 .taken)) in
-    sized (s .args .a) 0 (good s (rw (set-bits (s .args .a) (c .if3 .taken)) (omega arith))) e (omega arith)
+    let z = none _ (c .if3 .taken) in
+    sized (s .args .a) _ (good s (rw (set-bits (s .args .a) (c .if3 .taken)) (omega arith))) (z ∙ e) (omega arith)
+  where
+    none : (p : ℕ) → p ≡ 2147483648 → p % 2147483648 ≡ 0
+    none p h = omega arith
 
 returns-4 : tie.Need-returns-4
 returns-4 c =
