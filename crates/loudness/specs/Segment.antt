@@ -1,11 +1,10 @@
 -- What a segment's functions are given and compute. A reader of the promise need not read this. Definitions only.
-use mathlib.Core.Path.{_≡_}
 use mathlib.Core.Bool.{cond}
 use Prim.Native.Nat.{ℕ, _^_, _≤_, _<_}
 use lib.Dec.{eqb}
 use lib.Ieee.{Float, binary32, toBits}
 use Rattle.units.specs.Units.{Number, P}
-use Rattle.loudness.specs.Map.{Levels, Envelope}
+use Rattle.loudness.specs.Map.{Levels}
 
 -- a segment of a map: straight from step t at b to step c at m, of as many steps as a stimulator may have
 pub record Segment (b m : Float) (t c : ℕ) : Type 0 where
@@ -30,8 +29,3 @@ pub record Quotient (k n h : ℕ) : Type 0 where
 -- the pattern of a, with 0 for -0: of envelope values these are in the order of the values
 unfoldable pub sizeBits : Float → ℕ
 sizeBits a = cond (eqb (toBits binary32 a) 2147483648) 0 (toBits binary32 a)
-
--- that pattern of an envelope value, and of any other float more than the pattern of 1
-pub record Levelled (a : Float) (p : ℕ) : Type 0 where
-  pub inside : p ≤ 1065353216 → Envelope a × (p ≡ sizeBits a)
-  pub outside : 1065353216 < p → ¬ Envelope a

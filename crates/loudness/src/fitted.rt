@@ -9,7 +9,7 @@ ghost use Rattle.units.specs.Answers.{Ends, itself};
 ghost use Rattle.units.specs.Tests.{Tells};
 ghost use Rattle.loudness.specs.Map.{Channel};
 ghost use Rattle.loudness.specs.Knee.{BentChannel};
-ghost use Rattle.loudness.specs.Segment.{Segment, Levelled};
+ghost use Rattle.loudness.specs.Segment.{Segment};
 ghost use Rattle.loudness.specs.Words.{Passes, BentPasses, Past, Answered, Chosen, IsLine, thresholdOf, riseTo, upperOf, scaled, stepsIn, factorOf, fiveWords, segmentWords};
 ghost use Rattle.loudness.specs.Fitted.{straightWords, bentWords, asTheyAre, fittedOf, fittedKnee, Fits, Step};
 
@@ -30,25 +30,6 @@ fn passes(w: &[u32]) -> bool
     ensures { λ r. ⌜ Tells (Passes (now (w .entry))) r ⌝ }
 {
     std::num::wrapping_add_u32(sum(w[0], w[1], w[2], w[3], w[4]), w[5]) == CHECK
-}
-
-// The pattern of an envelope value, with 0 for -0; above that of 1 for any other float. 0 is written as a remainder: of a constant the compiler would look
-// for the row of the logarithm by a jump.
-fn level(a: f32) -> u32
-    ensures { λ p. ⌜ Levelled a p ⌝ }
-{
-    if a != a {
-        return 0xffff_ffff;
-    }
-    let p = f32::to_bits(a);
-    let q = p % 2147483648;
-    if p <= 0x3f80_0000 {
-        return q;
-    }
-    if p == 0x8000_0000 {
-        return q;
-    }
-    0xffff_ffff
 }
 
 // The threshold that stands in a word of steps.
@@ -132,9 +113,9 @@ fn straight(w: &[u32], a: f32, out: &mut u32) -> u32
     ensures { λ code. ⌜ Ends itself (Answered (now (w .entry)) a) code (now (out .entry)) (now (out .exit)) ⌝ }
 {
     if passes(w) {
-        let p = level(a);
-        if p <= 0x3f80_0000 {
-            *out = threshold(w[0]) + steps_in(w, rise(w, logs::fixed_bits(p)));
+        if super::is_envelope(a) {
+            let x = logs::fixed_bits(super::size_bits(a));
+            *out = threshold(w[0]) + steps_in(w, rise(w, x));
             return 0;
         }
         return 1;
@@ -151,9 +132,8 @@ fn chosen(w: &[u32], a: f32) -> usize
     }
     if w.len() == 12 {
         if bent_passes(w) {
-            let p = level(a);
-            if p <= 0x3f80_0000 {
-                if past(w, p) {
+            if super::is_envelope(a) {
+                if past(w, super::size_bits(a)) {
                     return 6;
                 }
                 return 0;
