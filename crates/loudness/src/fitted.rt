@@ -107,15 +107,19 @@ fn past(w: &[u32], p: u32) -> bool
     rise(&w[6..], logs::fixed_bits(p)) < 0x8000_0000_0000_0000
 }
 
-// The step of an envelope value by the words of a segment; code 4 where they do not pass, code 1 where a is no envelope value.
+// The step of an envelope value by the words of a segment; code 4 where they do not pass, code 1 where a is no envelope value. Its pattern is taken once, for
+// the test and for the logarithm: with `is_envelope` the compiler looks at it twice, 9 instructions more.
 fn straight(w: &[u32], a: f32, out: &mut u32) -> u32
     requires { ⌜ length (now w) ≡ 6 ⌝ }
     ensures { λ code. ⌜ Ends itself (Answered (now (w .entry)) a) code (now (out .entry)) (now (out .exit)) ⌝ }
 {
     if passes(w) {
-        if super::is_envelope(a) {
-            let x = logs::fixed_bits(super::size_bits(a));
-            *out = threshold(w[0]) + steps_in(w, rise(w, x));
+        if a != a {
+            return 1;
+        }
+        let p = super::size_bits(a);
+        if p <= 0x3f80_0000 {
+            *out = threshold(w[0]) + steps_in(w, rise(w, logs::fixed_bits(p)));
             return 0;
         }
         return 1;
