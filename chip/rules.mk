@@ -7,10 +7,11 @@
 # make chip-bench   instructions, bytes and stack of each function beside newlib's; writes docs/chip.txt
 
 # Without LLVM's second scheduler (misched) the roots take 4 to 8 instructions fewer, and no function is slower by more than 2.
-# Tables that a function uses together lie together, up to 320 bytes: one address for the logarithm's five, where each had its own.
+# Tables that a function uses together lie together, up to 239 bytes: two addresses for the logarithm's five. (With 320 bytes it is one, 3 instructions less,
+# and the tables of the transform are merged too, which takes 4 % longer by it.)
 FOR = chip
 TARGET_chip = --target=thumbv7em-none-eabihf -mcpu=cortex-m4 -mfloat-abi=hard -Xclang -target-feature -Xclang -use-misched \
-	-mllvm -global-merge-on-const -mllvm -global-merge-max-offset=320
+	-mllvm -global-merge-on-const -mllvm -global-merge-max-offset=239
 TARGET_cortex-m33 = --target=thumbv8m.main-none-eabihf -mcpu=cortex-m33 -mfloat-abi=hard
 TARGET_riscv32imafc = --target=riscv32-none-elf -march=rv32imafc -mabi=ilp32f
 
