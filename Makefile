@@ -14,7 +14,7 @@
 CC = cc
 CFLAGS = -O2 -Wall -Wextra
 LIBRARY = build/libearmath.a
-TESTS = values refusals spread phases wrong modes dot dot_nearest softmax transform currents loudness loudness_wrong top knee
+TESTS = values refusals spread phases wrong modes dot dot_nearest softmax transform currents loudness loudness_wrong top knee fitted
 
 # Tests stand in folders by subject. What is no test or sweep there is a helper that all of them share.
 FOLDERS = tests/harness tests/functions tests/lists tests/loudness tests/chip

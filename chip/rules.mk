@@ -9,9 +9,11 @@
 # Without LLVM's second scheduler (misched) the roots take 4 to 8 instructions fewer, and no function is slower by more than 2. Without its hoisting of
 # constants, which loads a mask of 23 bits again and again where one instruction puts bits in, softmax takes 8 fewer, and no function is slower by more than 1.
 # A guess that two functions share is no call with a higher limit for inlining: the root takes 4 fewer, the path from microphone to electrode 300, for 120 bytes.
+# Tables that a function uses together lie together, up to 239 bytes: two addresses for the logarithm's five. (With 320 bytes it is one, 3 instructions less,
+# and the tables of the transform are merged too, which takes 4 % longer by it.)
 FOR = chip
 TARGET_chip = --target=thumbv7em-none-eabihf -mcpu=cortex-m4 -mfloat-abi=hard -Xclang -target-feature -Xclang -use-misched \
-	-mllvm -disable-constant-hoisting -mllvm -inline-threshold=400
+	-mllvm -disable-constant-hoisting -mllvm -inline-threshold=400 -mllvm -global-merge-on-const -mllvm -global-merge-max-offset=239
 TARGET_cortex-m33 = --target=thumbv8m.main-none-eabihf -mcpu=cortex-m33 -mfloat-abi=hard
 TARGET_riscv32imafc = --target=riscv32-none-elf -march=rv32imafc -mabi=ilp32f
 

@@ -267,6 +267,46 @@ uint32_t ear_loudness_top(uint32_t top, float b, float m, uint32_t t, uint32_t c
 uint32_t ear_loudness_knee(uint32_t top, float b, float k, float m, uint32_t t, uint32_t kk, uint32_t c, float a,
                            uint32_t *out);
 
+/* How many words a fitted channel has: a straight one, and one with a knee. */
+enum { EAR_FITTED_WORDS = 6, EAR_FITTED_KNEE_WORDS = 12 };
+
+/*
+ * A channel, fitted: what the map needs of it, worked out once. n has to be
+ * EAR_FITTED_WORDS.
+ *
+ * Accepts: the channels of ear_loudness_top.
+ * Result:  words for ear_step. They mean the same on every machine, and may be kept
+ *          or copied as they are. The last of them is a check of the others.
+ * Refuses: with the first of these codes that applies; the words stay as they were.
+ *          EAR_BAD_LENGTH where n is another; EAR_BAD_CHANNEL where the channel
+ *          breaks a condition.
+ */
+uint32_t ear_fit(uint32_t top, float b, float m, uint32_t t, uint32_t c, uint32_t *words, uint64_t n);
+
+/*
+ * The same of a channel with a knee, one of those of ear_loudness_knee. n has to be
+ * EAR_FITTED_KNEE_WORDS. Each of its two halves has a check.
+ */
+uint32_t ear_fit_knee(uint32_t top, float b, float k, float m, uint32_t t, uint32_t kk, uint32_t c, uint32_t *words,
+                      uint64_t n);
+
+/*
+ * The loudness map of a fitted channel: the words of ear_fit, n of them, or those of
+ * ear_fit_knee.
+ *
+ * Result:  the step of ear_loudness_top or ear_loudness_knee for that channel, the
+ *          same for every a, with all that is promised of it.
+ * Any words: where one word of a fitted channel was changed, whichever it is and
+ *          whatever to, the call is refused with EAR_BAD_CHANNEL. Words that no fit
+ *          wrote and whose checks hold all the same are refused likewise, or give a
+ *          step between the T and the C that stand in them: T is words[0] >> 22, and
+ *          C is (v >> 22) + (v >> 12 & 1023) with v = words[n - 6].
+ * Refuses: with the first of these codes that applies; *out stays as it was.
+ *          EAR_BAD_LENGTH where n is neither of the two; EAR_BAD_CHANNEL for such
+ *          words; EAR_OUT_OF_RANGE where a is NaN, below 0 or above 1; -0 counts as 0.
+ */
+uint32_t ear_step(const uint32_t *words, uint64_t n, float a, uint32_t *out);
+
 /*
  * From microphone to electrode: the current steps of n bands for a frame of 128
  * samples.

@@ -34,7 +34,7 @@ enum evenly { OVER_PATTERNS, OVER_VALUES, IN_LISTS };
 #define AROUND_ZERO {"-1 <= x <= 1", OVER_VALUES, -1, 1, 0}
 #define EVERY_LARGE {"x >= 8192", OVER_PATTERNS, 8192, FLT_MAX, 0}
 #define BETWEEN {"a from b to m", OVER_PATTERNS, 0.001f, 0.316227766f, 0}
-#define BETWEEN_FITTED {"a from b to m; C fitted", OVER_PATTERNS, 0.001f, 0.316227766f, 0}
+#define BETWEEN_FITTED {"a from b to m; both fitted", OVER_PATTERNS, 0.001f, 0.316227766f, 0}
 #define CHANNEL 0.001f, 0.316227766f, 100, 200
 #define FRAMES {"a frame", IN_LISTS, -1, 1, VALUES}
 #define FRAMES_OF_22 {"a frame, 22 bands", IN_LISTS, -1, 1, VALUES}
@@ -75,10 +75,11 @@ enum evenly { OVER_PATTERNS, OVER_VALUES, IN_LISTS };
     LINE(path, ear_currents, ear_currents(255, list, VALUES, other, VALUES, bands, 6 * BANDS, steps, BANDS), "currents_in_c", \
          currents_in_c(list, other, bands, BANDS, steps), FRAMES_OF_22) \
     LINE(loudness_map, ear_loudness, ear_loudness(CHANNEL, x, &step), "map_in_c", map_in_c(CHANNEL, x, &step), BETWEEN) \
-    LINE(fitted_map, ear_loudness, ear_loudness(CHANNEL, x, &step), "fitted_in_c", fitted_in_c(x, &step), \
+    LINE(fitted_map, ear_step, ear_step(fitted, EAR_FITTED_WORDS, x, &step), "fitted_in_c", fitted_in_c(x, &step), \
          BETWEEN_FITTED)
 
 static float list[LONGEST], other[LONGEST], out[LONGEST];
+static uint32_t fitted[EAR_FITTED_WORDS];
 static uint32_t length;
 static volatile float y_sink;
 static struct ear_band bands[BANDS];
@@ -227,6 +228,7 @@ int main(void)
     *(volatile uint32_t *)0x40000008 = 0xffffffff; /* the timer's reload */
     *(volatile uint32_t *)0x40000000 = 1;
     fit_in_c(CHANNEL);
+    ear_fit(255, CHANNEL, fitted, EAR_FITTED_WORDS);
     turns_in_c();
     make_bands();
     for (int i = 0; i < CONTESTS_HELD; i++)

@@ -187,6 +187,24 @@ static void ask_map(const struct asked *f, uint32_t pattern, struct answer *a)
     a->code = f->call.map(word(k.b).value, word(k.m).value, k.t, k.c, word(pattern).value, &a->after[GUARD].bits);
 }
 
+/* The words of some channel, of a bad one words that no fit wrote; now and then one of them is changed, or their number is another. */
+static void ask_step(const struct asked *f, uint32_t pattern, struct answer *a)
+{
+    uint32_t state = pattern, words[EAR_FITTED_KNEE_WORDS];
+    struct channel k = draw_channel(&state);
+    uint32_t way = draw(&state), n = way & 1 ? EAR_FITTED_WORDS : EAR_FITTED_KNEE_WORDS, middle = k.b + (k.m - k.b) / 2;
+    for (uint32_t i = 0; i < EAR_FITTED_KNEE_WORDS; i++)
+        words[i] = draw(&state);
+    if (way & 1)
+        ear_fit(255, word(k.b).value, word(k.m).value, k.t, k.c, words, n);
+    else
+        ear_fit_knee(255, word(k.b).value, word(middle).value, word(k.m).value, k.t, (k.t + k.c) / 2, k.c, words, n);
+    if (way % 64 / 2 == 0)
+        words[draw(&state) % n] ^= draw(&state);
+    preset(a, 1, pattern);
+    a->code = f->call.step(words, way % 64 / 2 == 1 ? draw(&state) % EAR_FITTED_WORDS : n, word(pattern).value, &a->after[GUARD].bits);
+}
+
 /* Bands of all kinds over one frame; one time in 16 something in them is refused. */
 static void ask_currents(const struct asked *f, uint32_t pattern, struct answer *a)
 {
@@ -239,6 +257,8 @@ const struct asked every_function[] = {
     {"ear_currents", ask_currents, {.currents = ear_currents},
      1 << EAR_OK | 1 << EAR_OUT_OF_RANGE | 1 << EAR_BAD_LENGTH | 1 << EAR_BAD_CHANNEL, 64, false},
     {"ear_loudness", ask_map, {.map = ear_loudness}, 1 << EAR_OK | 1 << EAR_OUT_OF_RANGE | 1 << EAR_BAD_CHANNEL, 1, false},
+    {"ear_step", ask_step, {.step = ear_step},
+     1 << EAR_OK | 1 << EAR_OUT_OF_RANGE | 1 << EAR_BAD_LENGTH | 1 << EAR_BAD_CHANNEL, 4, false},
 };
 
 const int function_count = sizeof every_function / sizeof every_function[0];

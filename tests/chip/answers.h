@@ -37,6 +37,7 @@ struct asked {
         uint32_t (*currents)(uint32_t top, const float *x, uint64_t nx, const float *w, uint64_t nw, const struct ear_band *bands,
                              uint64_t words, uint32_t *out, uint64_t nout);
         uint32_t (*map)(float b, float m, uint32_t t, uint32_t c, float a, uint32_t *out);
+        uint32_t (*step)(const uint32_t *words, uint64_t n, float a, uint32_t *out);
     } call;
     uint32_t codes; /* the codes that it can return, bit 1 << code for each */
     uint32_t share; /* of so many drawn patterns it is asked one: 1, but for lists */

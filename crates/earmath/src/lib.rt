@@ -4,15 +4,16 @@ ghost use lib.ListN.{length};
 ghost use Rattle.units.specs.Answers.{Ends, floatBits, listBits, itself};
 ghost use Rattle.roots.specs.Sqrt.{Sqrt};
 ghost use Rattle.roots.specs.Rsqrt.{Rsqrt};
-ghost use Rattle.loudness.specs.Map.{Loudness};
-ghost use Rattle.loudness.specs.Knee.{LoudnessKnee};
+ghost use Rattle.loudness.specs.Map.{Channel, Loudness};
+ghost use Rattle.loudness.specs.Knee.{BentChannel, LoudnessKnee};
+ghost use Rattle.loudness.specs.Fitted.{straightWords, bentWords, asTheyAre, fittedOf, fittedKnee, Fits, Step};
 ghost use Rattle.powers.specs.Exp2.{Exp2};
 ghost use Rattle.powers.specs.Exp.{Exp};
 ghost use Rattle.logs.specs.Log2.{Log2};
 ghost use Rattle.circle.specs.Promise.{SinPi, CosPi, Sin, Cos};
 ghost use Rattle.sums.specs.Dot.{Dot};
 ghost use Rattle.spectrum.specs.Transform.{Transform, bothBits};
-ghost use Rattle.path.specs.Path.{Currents, asTheyAre};
+ghost use Rattle.path.specs.Path.{Currents};
 ghost use Rattle.exactsums.specs.Nearest.{NearestDot};
 ghost use Rattle.powers.specs.Base.{two, natural};
 ghost use Rattle.weights.specs.Softmax.{Softmax, floatsOf};
@@ -163,6 +164,39 @@ pub extern "C" fn ear_loudness_knee(
     ensures { λ code. ⌜ Ends itself (LoudnessKnee top b k m t kk c a) code (now (out .entry)) (now (out .exit)) ⌝ }
 {
     loudness::knee::loudness_knee(top, b, k, m, t, kk, c, a, out)
+}
+
+// What the map needs of a channel, worked out once, in 6 words: those that ear_step takes; or code 2 or 4 and nothing written.
+#[no_mangle]
+pub extern "C" fn ear_fit(top: u32, b: f32, m: f32, t: u32, c: u32, words: &mut [u32]) -> u32
+    ensures { λ code. ⌜ Ends asTheyAre (Fits (Channel top b m t c) (fittedOf b m t c) straightWords (length (now (words .entry)))) code (now (words .entry)) (now (words .exit)) ⌝ }
+{
+    loudness::fitted::fit(top, b, m, t, c, words)
+}
+
+// The same of a bent channel, in 12 words.
+#[no_mangle]
+pub extern "C" fn ear_fit_knee(
+    top: u32,
+    b: f32,
+    k: f32,
+    m: f32,
+    t: u32,
+    kk: u32,
+    c: u32,
+    words: &mut [u32],
+) -> u32
+    ensures { λ code. ⌜ Ends asTheyAre (Fits (BentChannel top b k m t kk c) (fittedKnee b k m t kk c) bentWords (length (now (words .entry)))) code (now (words .entry)) (now (words .exit)) ⌝ }
+{
+    loudness::fitted::fit_knee(top, b, k, m, t, kk, c, words)
+}
+
+// The step of an envelope value by the words of a fitted channel: the map's; or code 2, 4 or 1 and nothing written.
+#[no_mangle]
+pub extern "C" fn ear_step(words: &[u32], a: f32, out: &mut u32) -> u32
+    ensures { λ code. ⌜ Ends itself (Step (now (words .entry)) a) code (now (out .entry)) (now (out .exit)) ⌝ }
+{
+    loudness::fitted::step(words, a, out)
 }
 
 // The transform of 128 floats, parts 0 to 64: each within 2^-24 of its size, 2^-42 of the largest value and 2^-150, or code 2 or 1 and nothing written.

@@ -141,6 +141,13 @@ module _ (b : ℕ) where
     | inr h ↦ omega (arith, product-above h)
   ]
 
+  -- the value lies in the octave of the exponent
+  pub octave : (b / 8388608 * 2 ^ 54 ≤ fixedBits b) × (fixedBits b ≤ suc (b / 8388608) * 2 ^ 54)
+  octave = elim (le-or-lt 7 i) [
+    | inl h ↦ let s = sixteenth-below h .small in let f = fixed-below h in (omega arith, omega arith)
+    | inr h ↦ let s = sixteenth-above h .small in let f = fixed-above h in (omega arith, omega arith)
+  ]
+
   -- a number of X units with this pattern is read
   read-bits : (X : ℕ) → X * 2 ^ 24 ≡ (b % 8388608 + 8388608) * 2 ^ (b / 8388608 + 23) → b / 8388608 ≤ 254 → Read X (fixedBits b)
   read-bits X e few = elim (le-or-lt 7 i) [

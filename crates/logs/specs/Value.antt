@@ -1,5 +1,6 @@
 -- What the program computes for log2. A reader of the promise need not read this: Log2 names `log2Of` and says all that is promised of it. Definitions only.
-use Prim.Native.Nat.{ℕ, _+_, _-_, _*_, _/_, _%_}
+use mathlib.Core.Path.{_≡_}
+use Prim.Native.Nat.{ℕ, _+_, _-_, _*_, _/_, _%_, _≤_, _<_}
 use mathlib.Core.Bool.{cond}
 use lib.Dec.{ltb}
 use lib.Ieee.{Float, binary32, toBits, ofBits}
@@ -19,6 +20,11 @@ nearer b = (b + 4718592) / 8388608
 -- the exponent, and the product of slope and distance, which may be negative
 unfoldable pub fixedBits : ℕ → ℕ
 fixedBits b = nearer b * 18014398509481984 + b * slope b - nearer b * 8388608 * slope b
+
+-- the upper word of half of k, less p where b is below k: there the product of p with b - k, which wraps, has p too much in that word
+pub record Upper (b k p h : ℕ) : Type 0 where
+  pub below : b < k → (h + p) % 4294967296 ≡ k / 2
+  pub above : k ≤ b → h ≡ k / 2
 
 -- of a float
 unfoldable pub fixedOf : Float → ℕ

@@ -7,7 +7,7 @@ ghost use Prim.Native.Nat.{_+_, _-_, _*_, _/_, _^_, _<_, _≤_};
 ghost use Rattle.units.specs.Answers.{Ends, floatBits};
 ghost use Rattle.units.specs.Tests.{Tells};
 ghost use Rattle.logs.specs.Log2.{Accepts, Log2};
-ghost use Rattle.logs.specs.Value.{slope, distanceOf, roundedBits, signOf};
+ghost use Rattle.logs.specs.Value.{slope, Upper, fixedBits, distanceOf, roundedBits, signOf};
 ghost use Rattle.logs.specs.Fixed.{FixedLog2};
 
 // log2 1 in fixed point: 127 in steps of 2 ^ -54.
@@ -30,16 +30,36 @@ fn slope(b: u32) -> u32
     step(t.0, step(t.1, step(t.2, step(t.3, t.4, v), v), v), v)
 }
 
-// log2 x + 127 in steps of 2 ^ -54: the exponent of the nearer power of two, and slope times distance. With the pattern b for x, and k for that
-// power, the distance is b - k, of either sign, so that both sides of the cut are one formula.
+// The upper word of the exponent, less p where b is below k.
+fn upper(b: u32, k: u32, p: u32) -> u32
+    ensures { λ h. ⌜ Upper b k p h ⌝ }
+{
+    if b < k {
+        return std::num::wrapping_sub_u32(k / 2, p);
+    }
+    k / 2
+}
+
+// log2 x + 127 in steps of 2 ^ -54, by the pattern b of x: the exponent of the nearer power of two, and slope times distance. With k for the pattern of that
+// power, the distance is b - k, of either sign, so that both sides of the cut are one formula: one that is negative wraps, and its product has the slope too
+// much in the upper word.
+pub fn fixed_bits(b: u32) -> u64
+    requires { ⌜ b < 2 ^ 31 ⌝ }
+    ensures { λ w. ⌜ w ≡ fixedBits b ⌝ }
+{
+    let p = slope(b);
+    let k = (b + 4718592) / 8388608 * 8388608;
+    let d = std::num::wrapping_sub_u32(b, k);
+    let h = upper(b, k, p);
+    std::num::wrapping_add_u64((d as u64) * (p as u64), (h as u64) * 4294967296)
+}
+
+// The same of a float.
 pub fn fixed_log2(x: f32) -> u64
     requires { ⌜ Accepts x ⌝ }
     ensures { λ w. ⌜ FixedLog2 x w ⌝ }
 {
-    let b = f32::to_bits(x);
-    let p = slope(b) as u64;
-    let k = (b + 4718592) / 8388608 * 8388608;
-    (k / 2) as u64 * 4294967296 + b as u64 * p - k as u64 * p
+    fixed_bits(f32::to_bits(x))
 }
 
 // How far a logarithm in fixed point is from log2 1.

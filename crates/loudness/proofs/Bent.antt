@@ -73,7 +73,7 @@ module _ (top : ℕ) (b k m : Float) (t s c : ℕ) (ch : BentChannel top b k m t
       go (inr h) (inl g) = le-trans (below-knee a′ e′ g .1) (above-knee a e h .0)
       go (inr h) (inr g) = rw (knee-above b k m t s c a h, knee-above b k m t s c a′ g) (never-falls k m s c (segment (ch .upper)) a a′ (e .number) (e′ .number) less)
 
-  kept : (a : Float) → Envelope a → LoudnessKnee top b k m t s c a 0 (kneeOf b k m t s c a)
+  pub kept : (a : Float) → Envelope a → LoudnessKnee top b k m t s c a 0 (kneeOf b k m t s c a)
   kept a e = record {
     bad-channel = λ h. absurd (h ch);
     out-of-range = λ h n. absurd (n e);
@@ -92,8 +92,8 @@ module _ (top : ℕ) (b k m : Float) (t s c : ℕ) (ch : BentChannel top b k m t
   }
 
 -- an accepted channel with another a
-out-of-range : (top : ℕ) (b k m : Float) (t s c : ℕ) (a : Float) → BentChannel top b k m t s c → ¬ Envelope a → LoudnessKnee top b k m t s c a 1 0
-out-of-range top b k m t s c a ch n = record {
+pub out-of-range : (top : ℕ) (b k m : Float) (t s c : ℕ) (a : Float) (i : ℕ) → BentChannel top b k m t s c → ¬ Envelope a → LoudnessKnee top b k m t s c a 1 i
+out-of-range top b k m t s c a i ch n = record {
   bad-channel = λ h. absurd (h ch);
   out-of-range = λ h g. refl;
   success = λ h g. absurd (n g);
@@ -135,7 +135,7 @@ module _ (top : ℕ) (b k m : Float) (t s c : ℕ) (a : Float) {before : ℕ} wh
   success ch e v = written (kneeOf b k m t s c a) (kept top b k m t s c ch a e) v
 
   pub refusal : BentChannel top b k m t s c → ¬ Envelope a → Ends itself (LoudnessKnee top b k m t s c a) 1 before before
-  refusal ch n = untouched 1 0 (λ z. omega arith) (out-of-range top b k m t s c a ch n)
+  refusal ch n = untouched 1 0 (λ z. omega arith) (out-of-range top b k m t s c a 0 ch n)
 
   pub no-channel : ¬ BentChannel top b k m t s c → Ends itself (LoudnessKnee top b k m t s c a) 4 before before
   no-channel n = untouched 4 0 (λ z. omega arith) (bad-channel top b k m t s c a n)

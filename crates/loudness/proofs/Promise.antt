@@ -72,8 +72,8 @@ module _ (top : ℕ) (b m : Float) (t c : ℕ) (ch : Channel top b m t c) where
       }
 
 -- an accepted channel with another a
-out-of-range : (top : ℕ) (b m : Float) (t c : ℕ) (a : Float) → Channel top b m t c → ¬ Envelope a → Loudness top b m t c a 1 0
-out-of-range top b m t c a ch n = record {
+pub out-of-range : (top : ℕ) (b m : Float) (t c : ℕ) (a : Float) (i : ℕ) → Channel top b m t c → ¬ Envelope a → Loudness top b m t c a 1 i
+out-of-range top b m t c a i ch n = record {
   bad-channel = λ h. absurd (h ch);
   out-of-range = λ h k. refl;
   success = λ h k. absurd (n k);
@@ -109,7 +109,7 @@ module _ (top : ℕ) (b m : Float) (t c : ℕ) (a : Float) {before : ℕ} where
 
   -- nothing is written
   pub refusal : Channel top b m t c → ¬ Envelope a → Ends itself (Loudness top b m t c a) 1 before before
-  refusal ch n = untouched 1 0 (λ z. omega arith) (out-of-range top b m t c a ch n)
+  refusal ch n = untouched 1 0 (λ z. omega arith) (out-of-range top b m t c a 0 ch n)
 
   pub no-channel : ¬ Channel top b m t c → Ends itself (Loudness top b m t c a) 4 before before
   no-channel n = untouched 4 0 (λ z. omega arith) (bad-channel top b m t c a n)

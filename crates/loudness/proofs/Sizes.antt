@@ -193,6 +193,20 @@ envelope a f = record { if-true = λ e. yes (leb-true _ _ e); if-false = λ e r.
     yes : sizeBits a ≤ 1065353216 → Envelope a
     yes l = let (n, z) = either l in record { number = n; at-least-zero = z; at-most-one = at-most 8388608 126 one a (sized a n z) l }
 
+-- one below 2 ^ -24 has a pattern below that of it
+pub quieter : {a : Float} → Envelope a → P a < 2 ^ 125 → sizeBits a < 864026624
+quieter {a} e l = elim (le-or-lt 864026624 (sizeBits a)) [
+  | inl h ↦ absurd (not-le-of-lt l (at-least 8388608 102 quietest a (sized a (e .number) (e .at-least-zero)) h))
+  | inr h ↦ h
+]
+
+-- and all have patterns up to that of 1
+pub up-to-one : {a : Float} → Envelope a → sizeBits a ≤ 1065353216
+up-to-one {a} e = elim (le-or-lt (sizeBits a) 1065353216) [
+  | inl h ↦ h
+  | inr h ↦ absurd (not-le-of-lt (more 8388608 126 one a (sized a (e .number) (e .at-least-zero)) h) (e .at-most-one))
+]
+
 -- ---- an envelope value against a level
 module _ {a x : Float} (e : Envelope a) (s : Sound x) where
   value-sized : Sized a

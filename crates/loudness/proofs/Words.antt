@@ -60,7 +60,7 @@ module _ (k N D S n h : ℕ) (ps : 0 < S) (nd : n ≤ h) (full : 2147483648 ≤ 
       up i a b c = let f = part in omega arith
 
 -- ---- the places that a rise of an octave or more is shifted by
-floors : {a b c : ℕ} → a ≤ b → 0 < c → a / c ≤ b / c
+pub floors : {a b c : ℕ} → a ≤ b → 0 < c → a / c ≤ b / c
 floors {a} {b} {c} h p = div-mono a c b c p p (mul-le-mul-right c h)
 
 module _ (d : ℕ) (long : 2 ^ 53 ≤ d) (few : d < 2 ^ 59) where

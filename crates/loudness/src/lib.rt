@@ -1,6 +1,7 @@
 // The loudness map: from an envelope value to a current step, straight in the logarithm between threshold and comfort.
 // Levels are compared by their patterns, which are in the order of their sizes.
 
+pub mod fitted;
 pub mod knee;
 
 ghost use mathlib.Core.Path.{_≡_};

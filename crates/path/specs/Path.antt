@@ -10,6 +10,7 @@ use lib.Ieee.{Float, binary32, ofBits}
 use Rattle.units.specs.Units.{mag, P, Number}
 use Rattle.spectrum.specs.Difference.{Difference, opposite, times, size}
 use Rattle.spectrum.specs.Transform.{at, unitsOf, turnedTotal, Turns, sumOf, square}
+pub use Rattle.loudness.specs.Fitted.{asTheyAre}
 use Rattle.loudness.specs.Map.{Channel, RatioAtMost, RatioAtLeast}
 use Rattle.path.specs.Steps.{IsCurrent}
 
@@ -101,10 +102,6 @@ pathErrorNum top = cond (leb top 255) 501000 504000
 
 abbrev pub pathErrorDen : ℕ
 pathErrorDen = 1000000
-
--- a list of currents is its own pattern
-abbrev pub asTheyAre : List ℕ → List ℕ
-asTheyAre is = is
 
 -- the whole promise: a frame, a window and n bands are answered by a code and, where that is 0, by the currents is
 pub record Currents (top : ℕ) (xs ws : List Float) (bs : List ℕ) (n code : ℕ) (is : List ℕ) : Type 0 where

@@ -1,4 +1,4 @@
--- The transform of numbers that are not all small is not all small: halving undone, level by level, down to the values themselves. Assumes nothing.
+-- The transform of numbers that are not all small is not all small: halving undone, level by level, down to the values asTheyAre. Assumes nothing.
 use mathlib.Core.Path.{_≡_, refl, sym, ap, _∙_, subst}
 use mathlib.Core.Logic.{inl, inr, _⊎_}
 use mathlib.Core.Bool.{Bool}

@@ -56,7 +56,7 @@ module _ (u v : ℕ) (pu : 0 < u) (pv : 0 < v) where
 side : (m u d c X : ℕ) → X * d ≡ m * u * 2 ^ 149 → m * u * c * 2 ^ 149 ≡ X * (d * c)
 side m u d c X h = mul-right-comm (m * u) c (2 ^ 149) ∙ ap (λ (n : ℕ). n * c) (sym h) ∙ mul-assoc X d c
 
--- whatever test sees only proportions, and not the numbers themselves, may be made on units
+-- whatever test sees only proportions, and not the numbers asTheyAre, may be made on units
 on-units : (test : Bool → ℕ → Bool → ℕ → Bool)
     → ((u v : ℕ) → 0 < u → 0 < v → (s t : Bool) (a b x y : ℕ) → a * u ≡ x * v → b * u ≡ y * v → test s a t b ≡ test s x t y)
     → (s : Bool) (m : ℕ) (e : ℤ) (t : Bool) (n : ℕ) (d : ℤ) → Number (fin s m e) → Number (fin t n d)

@@ -1,4 +1,4 @@
--- What document 01 and change request Q3 ask follows from the promise: the powers in fixed point are an enclosure themselves, which tells how large p_i is where q_i is above or below 2 ^ -100.
+-- What document 01 and change request Q3 ask follows from the promise: the powers in fixed point are an enclosure asTheyAre, which tells how large p_i is where q_i is above or below 2 ^ -100.
 -- Assumes nothing.
 use mathlib.Core.Path.{_≡_}
 use mathlib.Core.Logic.{inl, inr}
