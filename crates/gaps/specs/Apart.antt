@@ -1,0 +1,20 @@
+-- What it means that a power of two keeps its distance from a fraction. Definitions only.
+use Prim.Native.Nat.{ℕ, _+_, _-_, _*_, _^_, _≤_, _<_}
+use Rattle.exact.specs.Power.{AtMost, AtLeast}
+
+-- 2 ^ (p / q) is at least (n + 1) / d, or at most (n - 1) / d: it is no nearer to n / d than 1 / d
+pub data Apart (n d p q : ℕ) : Type 0 where
+  above : AtMost (n + 1) d p 0 q → Apart n d p q
+  below : AtLeast (n - 1) d p 0 q → Apart n d p q
+
+-- 2 ^ (p / q) is no nearer than 2 ^ -58 to the middle of two neighbouring floats from 1 to 2, an odd number of 2 ^ -24
+abbrev pub OffMiddles : ℕ → ℕ → Type 0
+OffMiddles p q = (z : ℕ) → Apart ((2 * z + 1) * 2 ^ 34) (2 ^ 58) p q
+
+-- so are all 2 ^ t, for t the floats from 2 ^ -k on below twice that
+abbrev pub Rising : Type 0
+Rising = (k m : ℕ) → 1 ≤ k → k ≤ 24 → 2 ^ 23 ≤ m → m < 2 ^ 24 → OffMiddles m (2 ^ (k + 23))
+
+-- and for 1 less such a float
+abbrev pub Falling : Type 0
+Falling = (k m : ℕ) → 2 ≤ k → k ≤ 25 → 2 ^ 23 ≤ m → m < 2 ^ 24 → OffMiddles (2 ^ (k + 23) - m) (2 ^ (k + 23))
