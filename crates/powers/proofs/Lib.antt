@@ -3,6 +3,7 @@ pub mod Rounding
 pub mod Reduction
 pub mod Taken
 pub mod Order
+pub mod Middles
 pub mod Promise
 pub mod NaturalTaken
 pub mod NaturalReduction

@@ -11,7 +11,8 @@ ghost use lib.Ieee.{binary32, toBits};
 ghost use Rattle.powers.specs.Raised.{raised};
 ghost use Rattle.units.specs.Answers.{Ends, floatBits};
 ghost use Rattle.units.specs.Tests.{Tells};
-ghost use Rattle.powers.specs.Value.{stepsOf, cutOf, roundedPower};
+ghost use Rattle.units.specs.Units.{mag};
+ghost use Rattle.powers.specs.Value.{stepsOf, cutOf, roundedPower, isOpen, fractionOf, fineDigits, exp2Bits};
 ghost use Rattle.powers.specs.Exp2.{Accepts, Exp2};
 
 // One step of Horner's rule, the product of two 32-bit numbers cut off to its upper half.
@@ -112,6 +113,48 @@ fn rounded(c: u64) -> u32
     ((c / 4294967296) as u32 + 1) * 8388608 + (q / 256 + 1) / 2
 }
 
+// Whether the digits q do not tell the nearest float: the middle of two floats is 8 units above them at most, or 2 below.
+fn is_open(q: u32) -> bool
+    ensures { λ r. ⌜ r ≡ isOpen (q + 2 ^ 32) ⌝ }
+{
+    (q % 512 + 264) % 512 <= 10
+}
+
+// The fraction of x as a whole number of 2^-64. Digits before the point run over 64 bits; of a negative x it is what is missing to a whole number.
+fn fraction(x: f32) -> u64
+    requires { ⌜ Accepts x × (2 ^ 124 ≤ mag x) ⌝ }
+    ensures { λ r. ⌜ r ≡ fractionOf x ⌝ }
+{
+    let b = f32::to_bits(x);
+    let s = ((b % 8388608 + 8388608) as u64) << (b % 2147483648 / 8388608 - 86);
+    if b < 2147483648 {
+        return s;
+    }
+    std::num::wrapping_sub_u64(0, s)
+}
+
+// The digits by the second evaluation, rounded, and put together with the whole part e: in 2 of 100 calls.
+fn settled(x: f32, e: u32) -> u32
+    requires { ⌜ Accepts x × (2 ^ 124 ≤ mag x) × (e ≤ 253) ⌝ }
+    ensures { λ r. ⌜ r ≡ e * 8388608 + fineDigits (fractionOf x) ⌝ }
+{
+    let v = fine::fine(fraction(x));
+    (e + 1) * 8388608 + (v / 1099511627776 + 1) as u32 / 2
+}
+
+// The nearest float's pattern, where c is what x was cut to: the digits rounded, unless they are open.
+fn nearest(x: f32, c: u64) -> u32
+    requires { ⌜ Accepts x × (c ≡ cutOf x) ⌝ }
+    ensures { λ r. ⌜ r ≡ exp2Bits x ⌝ }
+{
+    let q = raise((c % 4294967296) as u32);
+    let e = (c / 4294967296) as u32;
+    if is_open(q) {
+        return settled(x, e);
+    }
+    (e + 1) * 8388608 + (q / 256 + 1) / 2
+}
+
 // 2 to the power x; code 1 and nothing written where x is a NaN, below -126 or above 127. From 2^-9 to 124 in size, where nearly all arguments
 // are, one test of the pattern says that x is accepted and that no digit of it is cut off.
 pub fn exp2(x: f32, out: &mut u32) -> u32
@@ -121,11 +164,11 @@ pub fn exp2(x: f32, out: &mut u32) -> u32
         return 1;
     }
     if std::num::wrapping_sub_u32(f32::to_bits(x) % 2147483648, 0x3b00_0000) <= 0x07f8_0000 {
-        *out = rounded(whole_cut(x));
+        *out = nearest(x, whole_cut(x));
         return 0;
     }
     if in_range(x) {
-        *out = rounded(cut_off(x));
+        *out = nearest(x, cut_off(x));
         return 0;
     }
     1
