@@ -4,6 +4,7 @@ pub mod Reduction
 pub mod Taken
 pub mod Order
 pub mod Middles
+pub mod Told
 pub mod Promise
 pub mod NaturalTaken
 pub mod NaturalReduction

@@ -25,6 +25,13 @@ pub record Rounds (x : Float) (S g : ℕ) : Type 0 where
   pub under : LessThan ((2 * S - 1) * 2 ^ g) (2 * 2 ^ 149) (P x) (N x) (2 ^ 149)
   pub first : S ≡ 2 ^ 23 → AtMost (S * 2 ^ g) (2 ^ 149) (P x) (N x) (2 ^ 149)
 
+-- such S and g, for u units
+pub record Found (x : Float) (u : ℕ) : Type 0 where
+  pub S : ℕ
+  pub g : ℕ
+  pub rounds : Rounds x S g
+  pub same : u ≡ S * 2 ^ g
+
 -- ---- over plain numbers: a significand S, a step G and the unit U
 
 -- where s is below 2 n, half of it is below n
