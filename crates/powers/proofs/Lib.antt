@@ -5,6 +5,7 @@ pub mod Taken
 pub mod Order
 pub mod Middles
 pub mod Told
+pub mod Covered
 pub mod Promise
 pub mod NaturalTaken
 pub mod NaturalReduction
