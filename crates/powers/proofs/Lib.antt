@@ -6,6 +6,7 @@ pub mod Order
 pub mod Middles
 pub mod Told
 pub mod Covered
+pub mod Decided
 pub mod Promise
 pub mod NaturalTaken
 pub mod NaturalReduction

@@ -80,7 +80,7 @@ below : (S R : ℕ) → 2 ^ 23 ≤ S → 512 * S + 3 ≤ R + 256 → (T : ℕ) �
 below S R l h = (S - 1, omega arith, omega arith)
 
 -- the least significand's units
-at-first : (S G U : ℕ) → S ≡ 2 ^ 23 → S * G * U ≤ G * (2 ^ 23 * U)
+pub at-first : (S G U : ℕ) → S ≡ 2 ^ 23 → S * G * U ≤ G * (2 ^ 23 * U)
 at-first S G U e = rw e (regroup (2 ^ 23))
   where
     regroup : (h : ℕ) → h * G * U ≤ G * (h * U)
