@@ -29,6 +29,10 @@ module _ {O Q : ℕ} (opos : 0 < O) where
       through : (x : ℕ) → A * v ≤ x * O + O → (A + e) * (v + 2) * O ≤ (x + (2 * e + 5)) * (O * O)
       through x h = omega (arith, mul-le-mul-right O h, mul-le-mul-right O low, mul-le-mul-right (e * O) fits)
 
+-- one exponent written in two ways
+pub rewritten : {A e O p p' q q' : ℕ} → 0 < q' → p * q' ≡ p' * q → Near A e O p q → Near A e O p' q'
+rewritten pos same near = record { most = most-of-larger pos (omega arith) (near .most); least = least-of-smaller pos (omega arith) (near .least) }
+
 -- ---- square roots
 
 -- a value to the half of an exponent
