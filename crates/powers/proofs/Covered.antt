@@ -11,14 +11,14 @@ use lib.Pow.{pow-add, pow-pos, pow-mono}
 use borrow.Author.Tests.{leb-true}
 use lib.Ieee.{Float}
 use Rattle.units.specs.Units.{mag, P, N}
-use Rattle.units.proofs.Naturals.{le-or-lt, pow-back-lt, pow-split}
+use Rattle.units.proofs.Naturals.{le-or-lt, pow-split}
 use Rattle.units.proofs.Signs.{sides}
-use Rattle.units.proofs.Bits.{Pattern, pattern-normal}
 use Rattle.gaps.specs.Apart.{OffMiddles, Rising, Falling}
 use Rattle.powers.specs.Exp2.{Accepts}
 use Rattle.powers.specs.Raised.{raised}
 use Rattle.powers.specs.Value.{cutOf, isOpen, fractionOf}
 use Rattle.powers.proofs.Method.{D, raised-zero, raised-mono, raised-top, raised-near-one, raised-near-two}
+use Rattle.powers.proofs.Places.{Placed, placed, places-from, in-cut, cut-plus, cut-minus, fraction-plus, fraction-minus, minus-room}
 
 -- ---- the fraction of what is open
 
@@ -187,14 +187,6 @@ module _ (m j : ℕ) (least : 2 ^ 23 ≤ m) (digits : m < 2 ^ 24) where
 
 -- ---- in units of a float, of which u make a step of 2 ^ -64
 
-plus-div : (c w u p n : ℕ) → 0 < u → p ≡ w * u → n ≡ 0 → (c * u + p - n) / u ≡ c + w
-plus-div c w u p n pos e z = let s : c * u + p - n ≡ (c + w) * u = omega arith in ap (λ (a : ℕ). a / u) s ∙ mul-div-cancel (c + w) pos
-
-minus-div : (c w u p n : ℕ) → 0 < u → p ≡ 0 → n ≡ w * u → (c * u + p - n) / u ≡ c - w
-minus-div c w u p n pos z e =
-    let s : c * u + p - n ≡ u * c - u * w = omega arith in
-    ap (λ (a : ℕ). a / u) (s ∙ sym (mul-sub u c w) ∙ mul-comm u (c - w)) ∙ mul-div-cancel (c - w) pos
-
 plus-units : (g v t c w u p n : ℕ) → g * v + t ≡ c + w → p ≡ w * u → n ≡ 0 → g * (v * u) + t * u + n ≡ p + c * u
 plus-units g v t c w u p n e i z = omega (arith, ap (λ (a : ℕ). a * u) e)
 
@@ -208,9 +200,6 @@ plus-few s h l = omega arith
 minus-few : (s : ℕ) → s < 128 → 256 < (126 * 2 ^ 32 - s) % 2 ^ 32 → (126 * 2 ^ 32 - s) % 2 ^ 32 < D - 128 → ⊥
 minus-few s h l k = omega arith
 
-less-none : (s : ℕ) → s - 0 ≡ s
-less-none s = omega arith
-
 -- the whole part and the fraction are x + 126, and the fraction keeps away
 pub record Exactly (x : Float) : Type 0 where
   pub whole : cutOf x / 2 ^ 32 * 2 ^ 149 + fractionOf x * 2 ^ 85 + N x ≡ P x + 126 * 2 ^ 149
@@ -221,20 +210,16 @@ module _ (x : Float) (a : Accepts x) (opened : isOpen (raised (cutOf x % 2 ^ 32)
   inside = open-fraction (cutOf x % 2 ^ 32) (omega arith) opened
 
   plus-size : P x ≡ mag x → N x ≡ 0 → 2 ^ 125 ≤ mag x
-  unfolding cutOf
   plus-size p n = elim (le-or-lt (2 ^ 125) (mag x)) [
     | inl h ↦ h
-    | inr h ↦
-        let e : 126 * 2 ^ 32 + P x / 2 ^ 117 - N x / 2 ^ 117 ≡ 126 * 2 ^ 32 + mag x / 2 ^ 117 = ap₂ (λ (i j : ℕ). 126 * 2 ^ 32 + i / 2 ^ 117 - j / 2 ^ 117) p n ∙ less-none (126 * 2 ^ 32 + mag x / 2 ^ 117) in
-        absurd (plus-few (mag x / 2 ^ 117) (div-lt-iff-lt-mul (pow-pos 117) .1 h) (subst (λ (c : ℕ). 256 < c % 2 ^ 32) e (inside .0)))
+    | inr h ↦ absurd (plus-few (mag x / 2 ^ 117) (div-lt-iff-lt-mul (pow-pos 117) .1 h) (subst (λ (c : ℕ). 256 < c % 2 ^ 32) (cut-plus x p n) (inside .0)))
   ]
 
   minus-size : P x ≡ 0 → N x ≡ mag x → 2 ^ 124 ≤ mag x
-  unfolding cutOf
   minus-size p n = elim (le-or-lt (2 ^ 124) (mag x)) [
     | inl h ↦ h
     | inr h ↦
-        let e : 126 * 2 ^ 32 + P x / 2 ^ 117 - N x / 2 ^ 117 ≡ 126 * 2 ^ 32 - mag x / 2 ^ 117 = ap₂ (λ (i j : ℕ). 126 * 2 ^ 32 + i / 2 ^ 117 - j / 2 ^ 117) p n in
+        let e = cut-minus x p n in
         absurd
         (minus-few (mag x / 2 ^ 117) (div-lt-iff-lt-mul (pow-pos 117) .1 h) (subst (λ (c : ℕ). 256 < c % 2 ^ 32) e (inside .0)) (subst (λ (c : ℕ). c % 2 ^ 32 < D - 128) e (inside .1)))
   ]
@@ -242,94 +227,55 @@ module _ (x : Float) (a : Accepts x) (opened : isOpen (raised (cutOf x % 2 ^ 32)
   pub open-size : 2 ^ 124 ≤ mag x
   open-size = elim (sides x) [ inl h ↦ le-trans (lit≤ tt) (plus-size (h .0) (h .1)) | inr h ↦ minus-size (h .0) (h .1) ]
 
-  -- the float's digits m and their place j in steps of 2 ^ -64
-  module _ (t : Pattern x) where
-    places-from : (n : ℕ) → 2 ^ n ≤ mag x → n < 24 + t .k
-    places-from n h = pow-back-lt n (24 + t .k) (lt-of-le-of-lt h (lt-of-le-of-lt (le-of-eq (t .units)) (lt-of-lt-of-le (mul-lt-mul-of-pos-right (t .digits) (pow-pos (t .k))) (le-of-eq (sym (pow-add 2 24 (t .k)))))))
-
-    in-steps : 85 ≤ t .k → mag x ≡ t .m * 2 ^ (t .k - 85) * 2 ^ 85
-    in-steps h = t .units ∙ ap (λ (n : ℕ). t .m * n) (pow-split 85 (t .k) h) ∙ sym (mul-assoc (t .m) (2 ^ (t .k - 85)) (2 ^ 85))
-
-  in-cut : (w : ℕ) → w * 2 ^ 85 / 2 ^ 117 ≡ w / 2 ^ 32
-  in-cut w = mul-div-mul-right w (2 ^ 32) (pow-pos 85)
-
   exactly-plus : Rising → P x ≡ mag x → N x ≡ 0 → Exactly x
-  unfolding cutOf fractionOf
   exactly-plus rising p n = record {
-    whole =
-        rw (cut, fraction)
-        (plus-units ((126 * 2 ^ 32 + w / 2 ^ 32) / 2 ^ 32) (2 ^ 64) ((126 * 2 ^ 64 + w) % 2 ^ 64) (126 * 2 ^ 64) w (2 ^ 85) (P x) (N x) (plus-parts w) (p ∙ steps) n);
-    point = rw fraction (plus-point m j (t .least) (t .digits) rising (omega (arith, low)) (plus-above w (lt-of-lt-of-le (lit< tt) (le-of-lt (subst (λ (c : ℕ). 256 < c % 2 ^ 32) cut (inside .0))))));
+    whole = rw (cut, fraction) (plus-units ((126 * 2 ^ 32 + w / 2 ^ 32) / 2 ^ 32) (2 ^ 64) ((126 * 2 ^ 64 + w) % 2 ^ 64) (126 * 2 ^ 64) w (2 ^ 85) (P x) (N x) (plus-parts w) (p ∙ t .steps) n);
+    point = rw fraction (plus-point (t .m) (t .j) (t .least) (t .digits) rising (omega (arith, places-from x t 125 size)) (plus-above w (lt-of-lt-of-le (lit< tt) (le-of-lt (subst (λ (c : ℕ). 256 < c % 2 ^ 32) cut (inside .0))))));
   }
     where
       size : 2 ^ 125 ≤ mag x
       size = plus-size p n
 
-      t : Pattern x
-      t = pattern-normal x (a .number) (le-trans (lit≤ tt) size)
-
-      low : 125 < 24 + t .k
-      low = places-from t 125 size
-
-      m : ℕ
-      m = t .m
-
-      j : ℕ
-      j = t .k - 85
+      t : Placed x
+      t = placed x (a .number) (le-trans (lit≤ tt) size)
 
       w : ℕ
-      w = m * 2 ^ j
+      w = t .m * 2 ^ t .j
 
-      steps : mag x ≡ w * 2 ^ 85
-      steps = in-steps t (omega (arith, low))
+      cut : cutOf x ≡ 126 * 2 ^ 32 + w / 2 ^ 32
+      cut = cut-plus x p n ∙ ap (λ (s : ℕ). 126 * 2 ^ 32 + s) (in-cut x t)
 
-      cut : 126 * 2 ^ 32 + P x / 2 ^ 117 - N x / 2 ^ 117 ≡ 126 * 2 ^ 32 + w / 2 ^ 32
-      cut = ap₂ (λ (i z : ℕ). 126 * 2 ^ 32 + i / 2 ^ 117 - z / 2 ^ 117) (p ∙ steps) n ∙ less-none (126 * 2 ^ 32 + w * 2 ^ 85 / 2 ^ 117) ∙ ap (λ (i : ℕ). 126 * 2 ^ 32 + i) (in-cut w)
-
-      fraction : (126 * 2 ^ 149 + P x - N x) / 2 ^ 85 % 2 ^ 64 ≡ (126 * 2 ^ 64 + w) % 2 ^ 64
-      fraction = ap (λ (i : ℕ). i % 2 ^ 64) (plus-div (126 * 2 ^ 64) w (2 ^ 85) (P x) (N x) (pow-pos 85) (p ∙ steps) n)
+      fraction : fractionOf x ≡ (126 * 2 ^ 64 + w) % 2 ^ 64
+      fraction = fraction-plus x t p n
 
   exactly-minus : Rising → Falling → P x ≡ 0 → N x ≡ mag x → Exactly x
-  unfolding cutOf fractionOf
   exactly-minus rising falling p n = record {
     whole =
         rw (cut, fraction)
-        (minus-units ((126 * 2 ^ 32 - w / 2 ^ 32) / 2 ^ 32) (2 ^ 64) ((126 * 2 ^ 64 - w) % 2 ^ 64) (126 * 2 ^ 64) w (2 ^ 85) (P x) (N x) (minus-parts w room part) p (n ∙ steps));
-    point = rw fraction (minus-point m j (t .least) (t .digits) rising falling (omega (arith, low)) room (minus-above w room part));
+        (minus-units ((126 * 2 ^ 32 - w / 2 ^ 32) / 2 ^ 32) (2 ^ 64) ((126 * 2 ^ 64 - w) % 2 ^ 64) (126 * 2 ^ 64) w (2 ^ 85) (P x) (N x) (minus-parts w room part) p (n ∙ t .steps));
+    point = rw fraction (minus-point (t .m) (t .j) (t .least) (t .digits) rising falling (omega (arith, places-from x t 124 size)) room (minus-above w room part));
   }
     where
       size : 2 ^ 124 ≤ mag x
       size = minus-size p n
 
-      t : Pattern x
-      t = pattern-normal x (a .number) (le-trans (lit≤ tt) size)
-
-      low : 124 < 24 + t .k
-      low = places-from t 124 size
-
-      m : ℕ
-      m = t .m
-
-      j : ℕ
-      j = t .k - 85
+      t : Placed x
+      t = placed x (a .number) (le-trans (lit≤ tt) size)
 
       w : ℕ
-      w = m * 2 ^ j
-
-      steps : mag x ≡ w * 2 ^ 85
-      steps = in-steps t (omega (arith, low))
+      w = t .m * 2 ^ t .j
 
       room : w ≤ 126 * 2 ^ 64
-      room = le-of-mul-le-mul-right (le-trans (le-of-eq (sym (n ∙ steps))) (a .at-least)) (pow-pos 85)
+      room = minus-room x t n (a .at-least)
 
-      cut : 126 * 2 ^ 32 + P x / 2 ^ 117 - N x / 2 ^ 117 ≡ 126 * 2 ^ 32 - w / 2 ^ 32
-      cut = ap₂ (λ (z i : ℕ). 126 * 2 ^ 32 + z / 2 ^ 117 - i / 2 ^ 117) p (n ∙ steps) ∙ ap (λ (i : ℕ). 126 * 2 ^ 32 - i) (in-cut w)
+      cut : cutOf x ≡ 126 * 2 ^ 32 - w / 2 ^ 32
+      cut = cut-minus x p n ∙ ap (λ (s : ℕ). 126 * 2 ^ 32 - s) (in-cut x t)
 
       part : 0 < (126 * 2 ^ 32 - w / 2 ^ 32) % 2 ^ 32
       part = lt-of-lt-of-le (lit< tt) (le-of-lt (subst (λ (c : ℕ). 256 < c % 2 ^ 32) cut (inside .0)))
 
-      fraction : (126 * 2 ^ 149 + P x - N x) / 2 ^ 85 % 2 ^ 64 ≡ (126 * 2 ^ 64 - w) % 2 ^ 64
-      fraction = ap (λ (i : ℕ). i % 2 ^ 64) (minus-div (126 * 2 ^ 64) w (2 ^ 85) (P x) (N x) (pow-pos 85) p (n ∙ steps))
+      fraction : fractionOf x ≡ (126 * 2 ^ 64 - w) % 2 ^ 64
+      fraction = fraction-minus x t p n
 
   pub exactly : Rising → Falling → Exactly x
   exactly rising falling = elim (sides x) [ inl h ↦ exactly-plus rising (h .0) (h .1) | inr h ↦ exactly-minus rising falling (h .0) (h .1) ]

@@ -5,6 +5,7 @@ pub mod Taken
 pub mod Order
 pub mod Middles
 pub mod Told
+pub mod Places
 pub mod Covered
 pub mod Decided
 pub mod Promise

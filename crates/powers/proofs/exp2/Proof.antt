@@ -1,9 +1,9 @@
 -- `powers::exp2` meets its promise: the argument is taken, or refused. Assumes nothing.
 use borrow.Author.Needs.{needs}
-use mathlib.Core.Path.{_≡_, sym, subst, ap, _∙_}
+use mathlib.Core.Path.{_≡_, sym, subst}
 use mathlib.Core.Logic.{inr}
 use Prim.Native.Nat.{ℕ, _+_, _*_, _%_, _^_, _≤_}
-use native.Mathlib.Nat.{le-trans, le-of-eq}
+use native.Mathlib.Nat.{le-trans}
 use native.Mathlib.Omega.{arith}
 use lib.Dec.{T, lit≤}
 use lib.Ieee.{Float, binary32, fits, toBits}
@@ -12,8 +12,6 @@ use Rattle.units.proofs.Signs.{size-sum}
 use Rattle.units.proofs.Patterns.{Shape, within}
 use Rattle.fixed.proofs.Take.{equal-to-itself, no-number}
 use Rattle.powers.specs.Exp2.{Accepts}
-use Rattle.powers.specs.Value.{roundedPower}
-use Rattle.powers.proofs.Reduction.{cut-top}
 use Rattle.powers.proofs.Promise.{success, refusal}
 use Rattle.powers.proofs.exp2.Statement.{statement}
 use Rattle.powers.proofs.exp2.Tie as tie
@@ -50,11 +48,11 @@ whole-cut-requires c κs =
     let (l, u) = low (toBits binary32 x) _ (c .before .wrapping-sub-u32 .ensures) (c .if2 .taken) in
     (common x (subst T (sym (c .before .before .before .good .0 .1)) tt) u, l)
 
-rounded-requires : tie.Need-rounded-requires
-rounded-requires c κs = le-trans (le-of-eq (c .whole-cut .ensures)) (cut-top _ (whole-cut-requires (c .before) tt .0))
+nearest-requires : tie.Need-nearest-requires
+nearest-requires c κs = (whole-cut-requires (c .before) tt .0, c .whole-cut .ensures)
 
 returns-2 : tie.Need-returns-2
-returns-2 c = success _ (whole-cut-requires (c .before .before) tt .0) (c .rounded .ensures ∙ ap roundedPower (c .before .whole-cut .ensures))
+returns-2 c = success _ (whole-cut-requires (c .before .before) tt .0) (c .nearest .ensures)
 
 in-range-requires : tie.Need-in-range-requires
 in-range-requires c κs = search needs
@@ -62,11 +60,11 @@ in-range-requires c κs = search needs
 cut-off-requires : tie.Need-cut-off-requires
 cut-off-requires c κs = c .before .in-range .ensures .if-true (c .if3 .taken)
 
-rounded-requires-2 : tie.Need-rounded-requires-2
-rounded-requires-2 c κs = le-trans (le-of-eq (c .cut-off .ensures)) (cut-top _ (cut-off-requires (c .before) _))
+nearest-requires-2 : tie.Need-nearest-requires-2
+nearest-requires-2 c κs = (cut-off-requires (c .before) _, c .cut-off .ensures)
 
 returns-3 : tie.Need-returns-3
-returns-3 c = success _ (cut-off-requires (c .before .before) _) (c .rounded2 .ensures ∙ ap roundedPower (c .before .cut-off .ensures))
+returns-3 c = success _ (cut-off-requires (c .before .before) _) (c .nearest2 .ensures)
 
 returns-4 : tie.Need-returns-4
 returns-4 c = refusal _ (c .before .in-range .ensures .if-false (c .if3 .left))
@@ -74,4 +72,4 @@ returns-4 c = refusal _ (c .before .in-range .ensures .if-false (c .if3 .left))
 pub exp2-spec : {M : Type 1} → statement M
 exp2-spec =
     tie.close
-    (tie.spec returns float-to-bits-wrapping-sub-u32 wrapping-sub-u32-requires whole-cut-requires rounded-requires returns-2 in-range-requires cut-off-requires rounded-requires-2 returns-3 returns-4)
+    (tie.spec returns float-to-bits-wrapping-sub-u32 wrapping-sub-u32-requires whole-cut-requires nearest-requires returns-2 in-range-requires cut-off-requires nearest-requires-2 returns-3 returns-4)
