@@ -12,6 +12,13 @@ words a b h k = let i : a ≤ 4294967295 = omega arith in let j : b ≤ 42949672
 pub fraction : (p t : ℕ) → t < 2 ^ 64 → p * t / 2 ^ 64 ≤ p
 fraction p t h = let l : t ≤ 18446744073709551616 = omega arith in omega (arith, mul-le-mul-left p l)
 
+-- the two products of a word p, with their carry
+pub part : (p t : ℕ) → (p * (t / 4294967296) + p * (t % 4294967296) / 4294967296) / 4294967296 ≡ p * t / 2 ^ 64
+part p t = carried (t / 4294967296) (t % 4294967296) t (omega arith)
+  where
+    carried : (c d t : ℕ) → t ≡ c * 4294967296 + d → (p * c + p * d / 4294967296) / 4294967296 ≡ p * t / 2 ^ 64
+    carried c d t k = rw k (omega arith)
+
 -- the four products of the words, with their carries
 pub product : (p t : ℕ) →
     let l = p % 4294967296 * (t % 4294967296) in

@@ -2,13 +2,13 @@
 // times what a power in 32 digits takes, and is asked where that leaves open which float is the nearest.
 
 ghost use mathlib.Core.Path.{_≡_};
-ghost use Prim.Native.Nat.{_+_, _*_, _/_, _^_, _<_, _≤_};
+ghost use Prim.Native.Nat.{_+_, _*_, _/_, _^_, _<_};
 ghost use Rattle.fine.specs.Fine.{fineOf};
 
 // A step of Horner's rule of one word: the product's first word, after the point, cut off.
 fn short(c: u32, p: u32, t: u64) -> u32
     requires { ⌜ c + p < 2 ^ 32 ⌝ }
-    ensures { λ r. ⌜ (r ≡ c + p * t / 2 ^ 64) × (r ≤ c + p) ⌝ }
+    ensures { λ r. ⌜ r ≡ c + p * t / 2 ^ 64 ⌝ }
 {
     let low = (p as u64) * (t % 4294967296);
     c + (((p as u64) * (t / 4294967296) + low / 4294967296) / 4294967296) as u32
@@ -27,7 +27,7 @@ fn upper(p: u64, t: u64) -> u64
 // A step of Horner's rule.
 fn step(c: u64, p: u64, t: u64) -> u64
     requires { ⌜ c + p < 2 ^ 64 ⌝ }
-    ensures { λ r. ⌜ (r ≡ c + p * t / 2 ^ 64) × (r ≤ c + p) ⌝ }
+    ensures { λ r. ⌜ r ≡ c + p * t / 2 ^ 64 ⌝ }
 {
     c + upper(p, t)
 }

@@ -1,6 +1,5 @@
 -- `fine::step` meets its contract: a fraction of p is at most p. Assumes nothing.
 use borrow.Author.Needs.{needs}
-use mathlib.Core.Path.{refl}
 use native.Mathlib.Omega.{arith}
 use Rattle.fine.proofs.Words.{fraction}
 use Rattle.fine.proofs.step.Statement.{statement}
@@ -13,7 +12,7 @@ add-result : tie.Need-add-result
 add-result c = omega (arith, fraction (c .before .args .p) (c .before .args .t) (omega arith))
 
 returns : tie.Need-returns
-returns c = (omega arith, omega (arith, fraction (c .before .args .p) (c .before .args .t) (omega arith)))
+returns c = search needs
 
 pub step-spec : {M : Type 1} → statement M
 step-spec = tie.close (tie.spec upper-requires add-result returns)
