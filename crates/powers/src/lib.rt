@@ -163,13 +163,13 @@ pub fn exp2(x: f32, out: &mut u32) -> u32
     if x != x {
         return 1;
     }
-    if std::num::wrapping_sub_u32(f32::to_bits(x) % 2147483648, 0x3b00_0000) <= 0x07f8_0000 {
-        *out = nearest(x, whole_cut(x));
-        return 0;
-    }
-    if in_range(x) {
-        *out = nearest(x, cut_off(x));
-        return 0;
-    }
-    1
+    let c = if std::num::wrapping_sub_u32(f32::to_bits(x) % 2147483648, 0x3b00_0000) <= 0x07f8_0000 {
+        whole_cut(x)
+    } else if in_range(x) {
+        cut_off(x)
+    } else {
+        return 1;
+    };
+    *out = nearest(x, c);
+    0
 }
