@@ -13,20 +13,20 @@ use Rattle.exact.proofs.Strict.{less-of-less, more-of-more}
 use Rattle.gaps.specs.Apart.{Apart, above, below}
 use Rattle.fine.specs.Value.{fineOf}
 use Rattle.fine.proofs.Method.{fine-most, fine-least, fine-fits}
-use Rattle.powers.specs.Value.{fineDigits}
+use Rattle.powers.specs.Value.{roundedDigits, fineDigits}
 use Rattle.powers.proofs.Middles.{Rounds}
 use Rattle.powers.proofs.Told.{whole-most, at-first}
 use Rattle.powers.proofs.Covered.{Point}
 
 -- ---- over plain numbers: E units of 2 ^ -64 above 1, rounded to 24 digits
 
-rounding : (E : ℕ) → (2 ^ 64 + E < (2 * ((2 ^ 64 + E + 2 ^ 40) / 2 ^ 41) + 1) * 2 ^ 40) × (2 ^ 41 * ((2 ^ 64 + E + 2 ^ 40) / 2 ^ 41) ≤ 2 ^ 64 + E + 2 ^ 40)
+rounding : (E : ℕ) → (2 ^ 64 + E < (2 * roundedDigits (E / 2 ^ 32 + 2 ^ 32) + 1) * 2 ^ 40) × (2 ^ 41 * roundedDigits (E / 2 ^ 32 + 2 ^ 32) ≤ 2 ^ 64 + E + 2 ^ 40)
 rounding E = (omega arith, omega arith)
 
-digits-from : (E : ℕ) → 2 ^ 23 ≤ (2 ^ 64 + E + 2 ^ 40) / 2 ^ 41
+digits-from : (E : ℕ) → 2 ^ 23 ≤ roundedDigits (E / 2 ^ 32 + 2 ^ 32)
 digits-from E = omega arith
 
-digits-to : (E : ℕ) → E < 2 ^ 64 → (2 ^ 64 + E + 2 ^ 40) / 2 ^ 41 ≤ 2 ^ 24
+digits-to : (E : ℕ) → E < 2 ^ 64 → roundedDigits (E / 2 ^ 32 + 2 ^ 32) ≤ 2 ^ 24
 digits-to E h = omega arith
 
 -- the odd number of half steps below S
@@ -115,7 +115,7 @@ module _ (x : Float) (g t : ℕ) (small : t < 2 ^ 64) (whole : g * 2 ^ 149 + t *
   unfolding fineDigits
   decided =
       let E = fineOf t in
-      let S = (2 ^ 64 + E + 2 ^ 40) / 2 ^ 41 in
+      let S = roundedDigits (E / 2 ^ 32 + 2 ^ 32) in
       let (up, down) = rounding E in
       let (T, e, from) = under-steps S E (digits-from E) down in
       record {

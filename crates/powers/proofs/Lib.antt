@@ -9,6 +9,7 @@ pub mod Places
 pub mod Covered
 pub mod Decided
 pub mod Promise
+pub mod Unique
 pub mod NaturalTaken
 pub mod NaturalReduction
 pub mod NaturalPromise

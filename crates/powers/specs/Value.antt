@@ -15,9 +15,13 @@ stepsOf b = cond (ltb b (94 * 8388608)) 0 ((b % 8388608 + 8388608) * 2 ^ (b / 83
 unfoldable pub cutOf : Float → ℕ
 cutOf x = 126 * 2 ^ 32 + P x / 2 ^ 117 - N x / 2 ^ 117
 
+-- digits in units of 2 ^ -32, from 1 to 2, rounded to 24 of them
+abbrev pub roundedDigits : ℕ → ℕ
+roundedDigits r = (r + 256) / 512
+
 -- the 24 digits of 2 ^ (f / 2 ^ 32), rounded to nearest
 unfoldable pub powerDigits : ℕ → ℕ
-powerDigits f = (raised f + 256) / 512
+powerDigits f = roundedDigits (raised f)
 
 -- the digits of the fraction, put together with the whole part: a bit pattern
 unfoldable pub roundedPower : ℕ → ℕ
@@ -33,7 +37,7 @@ fractionOf x = (126 * 2 ^ 149 + P x - N x) / 2 ^ 85 % 2 ^ 64
 
 -- the 24 digits of 2 ^ (t / 2 ^ 64) by the second evaluation, rounded to nearest
 unfoldable pub fineDigits : ℕ → ℕ
-fineDigits t = (2 ^ 64 + fineOf t + 2 ^ 40) / 2 ^ 41
+fineDigits t = roundedDigits (fineOf t / 2 ^ 32 + 2 ^ 32)
 
 -- the 24 digits of 2 ^ x, by the second evaluation where the first does not tell them
 unfoldable pub exp2Digits : Float → ℕ

@@ -1,13 +1,13 @@
 -- `powers::nearest` meets its contract: the digits of the one evaluation or of the other. Assumes nothing.
 use borrow.Author.Needs.{needs}
-use mathlib.Core.Path.{_≡_, sym, ap, ap₂, _∙_}
+use mathlib.Core.Path.{_≡_, sym, ap, _∙_}
 use mathlib.Core.Bool.{Bool, true, false, cond}
 use Prim.Native.Nat.{ℕ, _+_, _*_, _/_, _%_, _^_, _≤_}
 use native.Mathlib.Nat.{le-trans, le-of-eq}
 use native.Mathlib.Omega.{arith}
 use lib.Ieee.{Float}
 use Rattle.powers.specs.Raised.{raised}
-use Rattle.powers.specs.Value.{cutOf, powerDigits, isOpen, fractionOf, fineDigits, exp2Digits, exp2Bits}
+use Rattle.powers.specs.Value.{cutOf, roundedDigits, powerDigits, isOpen, fractionOf, fineDigits, exp2Digits, exp2Bits}
 use Rattle.powers.proofs.Reduction.{cut-top}
 use Rattle.powers.proofs.Covered.{open-size}
 use Rattle.powers.proofs.nearest.Statement.{statement}
@@ -50,29 +50,17 @@ returns c =
     ∙ ap (λ (n : ℕ). n / 2 ^ 32 * 8388608 + fineDigits (fractionOf (s .args .x))) (s .pre .1)
     ∙ sym (bits (s .args .x) true (sym (tested (c .before .before)) ∙ c .before .if1 .taken))
 
-add-result : tie.Need-add-result
-add-result c = omega (arith, top (c .before .before .before))
-
-mul-result : tie.Need-mul-result
-mul-result c = omega (arith, top (c .before .before .before))
-
-add-result-2 : tie.Need-add-result-2
-add-result-2 c = search needs
-
-add-result-3 : tie.Need-add-result-3
-add-result-3 c = omega (arith, top (c .before .before .before))
-
--- the 1 before the point is a step of the exponent
-carried : (e q r : ℕ) → q + 4294967296 ≡ r → (e + 1) * 8388608 + (q / 256 + 1) / 2 ≡ e * 8388608 + (r + 256) / 512
-carried e q r h = omega arith
+put-together-requires : tie.Need-put-together-requires
+put-together-requires c κs = omega (arith, top (c .before .before .before))
 
 returns-2 : tie.Need-returns-2
 unfolding powerDigits
 returns-2 c =
-    let s = c .before .before .before in
-    carried (s .args .c / 4294967296) (c .before .before .raise .result) _ (c .before .before .raise .ensures)
+    let s = c .before .before .before .before in
+    c .put-together .ensures
+    ∙ ap (λ (r : ℕ). s .args .c / 4294967296 * 8388608 + roundedDigits r) (c .before .before .before .raise .ensures)
     ∙ ap (λ (n : ℕ). n / 2 ^ 32 * 8388608 + powerDigits (n % 2 ^ 32)) (s .pre .1)
-    ∙ sym (bits (s .args .x) false (sym (tested (c .before)) ∙ c .if1 .left))
+    ∙ sym (bits (s .args .x) false (sym (tested (c .before .before)) ∙ c .before .if1 .left))
 
 pub nearest-spec : {M : Type 1} → statement M
-nearest-spec = tie.close (tie.spec cast-raise raise-requires cast-e is-open-requires settled-requires returns add-result mul-result add-result-2 add-result-3 returns-2)
+nearest-spec = tie.close (tie.spec cast-raise raise-requires cast-e is-open-requires settled-requires returns put-together-requires returns-2)
