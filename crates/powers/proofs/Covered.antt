@@ -16,25 +16,25 @@ use Rattle.units.proofs.Signs.{sides}
 use Rattle.gaps.specs.Apart.{OffMiddles, Rising, Falling}
 use Rattle.powers.specs.Exp2.{Accepts}
 use Rattle.powers.specs.Raised.{raised}
-use Rattle.powers.specs.Value.{cutOf, isOpen, fractionOf}
+use Rattle.powers.specs.Value.{cutOf, openBelow, openAbove, isOpen, fractionOf}
 use Rattle.powers.proofs.Method.{D, raised-zero, raised-mono, raised-top, raised-near-one, raised-near-two}
 use Rattle.powers.proofs.Places.{Placed, placed, places-from, in-cut, cut-plus, cut-minus, fraction-plus, fraction-minus, minus-room}
 
 -- ---- the fraction of what is open
 
 -- digits so near to 1, or to 2, are not open
-away-one : (R : ℕ) → D ≤ R → R ≤ D + 247 → (R + 264) % 512 ≤ 10 → ⊥
+away-one : (R : ℕ) → D ≤ R → R ≤ D + 247 → (R + 256 + openBelow) % 512 ≤ openBelow + openAbove → ⊥
 away-one R l h o = omega arith
 
-away-two : (R : ℕ) → 2 * D ≤ R + 253 → R ≤ 2 * D → (R + 264) % 512 ≤ 10 → ⊥
+away-two : (R : ℕ) → 2 * D ≤ R + 253 → R ≤ 2 * D → (R + 256 + openBelow) % 512 ≤ openBelow + openAbove → ⊥
 away-two R l h o = omega arith
 
 pub open-fraction : (f : ℕ) → f ≤ D → isOpen (raised f) ≡ true → (256 < f) × (f < D - 128)
 unfolding isOpen
 open-fraction f small opened = (elim (le-or-lt f 256) [ inl h ↦ absurd (low h) | inr h ↦ h ], elim (le-or-lt (D - 128) f) [ inl h ↦ absurd (high h) | inr h ↦ h ])
   where
-    near : (raised f + 264) % 512 ≤ 10
-    near = leb-true ((raised f + 264) % 512) 10 opened
+    near : (raised f + 256 + openBelow) % 512 ≤ openBelow + openAbove
+    near = leb-true ((raised f + 256 + openBelow) % 512) (openBelow + openAbove) opened
 
     low : f ≤ 256 → ⊥
     low h = away-one (raised f) (le-trans (le-of-eq (sym raised-zero)) (raised-mono (omega arith))) (le-trans (raised-mono h) raised-near-one) near

@@ -13,21 +13,24 @@ use Rattle.exact.proofs.Strict.{less-of-less, more-of-more}
 use Rattle.gaps.specs.Apart.{Apart, above, below}
 use Rattle.fine.specs.Value.{fineOf}
 use Rattle.fine.proofs.Method.{fine-most, fine-least, fine-fits}
-use Rattle.powers.specs.Value.{roundedDigits, fineDigits}
+use Rattle.powers.specs.Value.{fineDigits}
 use Rattle.powers.proofs.Middles.{Rounds}
 use Rattle.powers.proofs.Told.{whole-most, at-first}
 use Rattle.powers.proofs.Covered.{Point}
 
--- ---- over plain numbers: E units of 2 ^ -64 above 1, rounded to 24 digits
+-- ---- E units of 2 ^ -64 above 1, rounded to 24 digits
 
-rounding : (E : ℕ) → (2 ^ 64 + E < (2 * roundedDigits (E / 2 ^ 32 + 2 ^ 32) + 1) * 2 ^ 40) × (2 ^ 41 * roundedDigits (E / 2 ^ 32 + 2 ^ 32) ≤ 2 ^ 64 + E + 2 ^ 40)
-rounding E = (omega arith, omega arith)
+rounding : (t : ℕ) → (2 ^ 64 + fineOf t < (2 * fineDigits t + 1) * 2 ^ 40) × (2 ^ 41 * fineDigits t ≤ 2 ^ 64 + fineOf t + 2 ^ 40)
+unfolding fineDigits
+rounding t = (omega arith, omega arith)
 
-digits-from : (E : ℕ) → 2 ^ 23 ≤ roundedDigits (E / 2 ^ 32 + 2 ^ 32)
-digits-from E = omega arith
+digits-from : (t : ℕ) → 2 ^ 23 ≤ fineDigits t
+unfolding fineDigits
+digits-from t = omega arith
 
-digits-to : (E : ℕ) → E < 2 ^ 64 → roundedDigits (E / 2 ^ 32 + 2 ^ 32) ≤ 2 ^ 24
-digits-to E h = omega arith
+digits-to : (t : ℕ) → fineOf t < 2 ^ 64 → fineDigits t ≤ 2 ^ 24
+unfolding fineDigits
+digits-to t h = omega arith
 
 -- the odd number of half steps below S
 under-steps : (S E : ℕ) → 2 ^ 23 ≤ S → 2 ^ 41 * S ≤ 2 ^ 64 + E + 2 ^ 40 → (T : ℕ) × (2 * S - 1 ≡ 2 * T + 1) × ((2 * T + 1) * 2 ^ 40 ≤ 2 ^ 64 + E)
@@ -112,15 +115,13 @@ module _ (x : Float) (g t : ℕ) (small : t < 2 ^ 64) (whole : g * 2 ^ 149 + t *
   least-x h = least-of-smaller (pow-pos 149) (le-of-eq (exponents g t (P x) (N x) (2 ^ 64) (2 ^ 85) whole)) (least-shift g 126 h)
 
   pub decided : Rounds x (fineDigits t) g
-  unfolding fineDigits
   decided =
-      let E = fineOf t in
-      let S = roundedDigits (E / 2 ^ 32 + 2 ^ 32) in
-      let (up, down) = rounding E in
-      let (T, e, from) = under-steps S E (digits-from E) down in
+      let S = fineDigits t in
+      let (up, down) = rounding t in
+      let (T, e, from) = under-steps S (fineOf t) (digits-from t) down in
       record {
-        least = digits-from E;
-        most = digits-to E (fine-fits t small);
+        least = digits-from t;
+        most = digits-to t (fine-fits t small);
         over = more-of-more (lit< tt) (least-by (2 * S + 1) (2 ^ 34) (2 ^ g) (2 * 2 ^ 149) (odd-above S) unit) (least-x (below-above t small point S up));
         under =
             subst (λ (n : ℕ). LessThan (n * 2 ^ g) (2 * 2 ^ 149) (P x) (N x) (2 ^ 149)) (sym e)

@@ -16,7 +16,7 @@ use Rattle.exact.proofs.Power.{pow-one, most-of-less, most-of-larger, least-of-
 use Rattle.exact.proofs.Strict.{less-of-less, more-of-more}
 use Rattle.powers.specs.Exp2.{Accepts}
 use Rattle.powers.specs.Raised.{raised}
-use Rattle.powers.specs.Value.{cutOf, powerDigits, isOpen}
+use Rattle.powers.specs.Value.{cutOf, powerDigits, openBelow, openAbove, isOpen}
 use Rattle.powers.proofs.Method.{D, raised-zero, raised-mono, raised-top, raised-most, raised-least}
 use Rattle.powers.proofs.Reduction.{most-uncut, least-uncut}
 use Rattle.powers.proofs.Rounding.{digits-first, digits-last}
@@ -72,7 +72,7 @@ under-by R T G U top far pos = regroup-under (2 * T + 1) ((2 * D + 1) * D) (10 *
         order t a d c r h i = omega arith
 
 -- digits that are not open are as far from both middles
-far : (R : ℕ) → 10 < (R + 264) % 512 → (R + 9 ≤ 512 * ((R + 256) / 512) + 256) × (512 * ((R + 256) / 512) + 3 ≤ R + 256)
+far : (R : ℕ) → openBelow + openAbove < (R + 256 + openBelow) % 512 → (R + 9 ≤ 512 * ((R + 256) / 512) + 256) × (512 * ((R + 256) / 512) + 3 ≤ R + 256)
 far R h = (omega arith, omega arith)
 
 -- a significand and the odd number of half steps below it
@@ -177,7 +177,7 @@ module _ (x : Float) (a : Accepts x) where
 
   far-both : isOpen R ≡ false → (R + 9 ≤ 512 * S + 256) × (512 * S + 3 ≤ R + 256)
   unfolding isOpen powerDigits
-  far-both closed = far R (leb-false ((R + 264) % 512) 10 closed)
+  far-both closed = far R (leb-false ((R + 256 + openBelow) % 512) (openBelow + openAbove) closed)
 
   -- x is at least the whole number before the digits
   from-whole : isOpen R ≡ false → g * 2 ^ 149 + N x ≤ P x + 126 * 2 ^ 149 → Rounds x S g

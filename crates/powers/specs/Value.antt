@@ -27,9 +27,16 @@ powerDigits f = roundedDigits (raised f)
 unfoldable pub roundedPower : ℕ → ℕ
 roundedPower c = c / 2 ^ 32 * 8388608 + powerDigits (c % 2 ^ 32)
 
--- whether the middle of two floats, an odd number of 256, is 8 above these digits at most, or 2 below: they do not tell on which side of it the power is
+-- how far below the middle of two floats, and how far above it, digits in units of 2 ^ -32 do not tell on which side of it the power is
+abbrev pub openBelow : ℕ
+openBelow = 8
+
+abbrev pub openAbove : ℕ
+openAbove = 2
+
+-- whether the digits r are so near to a middle, an odd number of 256
 unfoldable pub isOpen : ℕ → Bool
-isOpen r = leb ((r + 264) % 512) 10
+isOpen r = leb ((r + 256 + openBelow) % 512) (openBelow + openAbove)
 
 -- the fraction of x as a whole number of 2 ^ -64
 unfoldable pub fractionOf : Float → ℕ
