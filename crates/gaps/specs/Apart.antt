@@ -1,4 +1,4 @@
--- What it means that a power of two keeps its distance from a fraction. Definitions only.
+-- What it means that a power of two keeps its distance from a fraction. A reader of the promises need not read this. Definitions only.
 use Prim.Native.Nat.{ℕ, _+_, _-_, _*_, _^_, _≤_, _<_}
 use Rattle.exact.specs.Power.{AtMost, AtLeast}
 
