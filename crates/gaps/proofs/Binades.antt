@@ -3,7 +3,7 @@ use mathlib.Core.Path.{_≡_}
 use mathlib.Core.Bool.{Bool, true, false}
 use mathlib.Core.Logic.{inl, inr}
 use Prim.Native.Nat.{ℕ, zero, suc, _+_, _*_, _^_, _≤_, _<_}
-use native.Mathlib.Nat.{eq-or-lt-of-le, lt-of-not-le}
+use native.Mathlib.Nat.{eq-or-lt-of-le, lt-of-not-le, add-suc, pow-suc}
 use native.Mathlib.Decide.{decLe}
 use native.Mathlib.Omega.{arith}
 use lib.Dec.{T, lit≤}
@@ -37,6 +37,10 @@ pub binade-clear : (τ g Q st r : ℕ) → 0 < Q → st * 2 ^ r ≡ Q → 23 ≤
 unfolding first second
 binade-clear τ g Q st r qpos whole long known A e p near few within t t' =
     jobs-clear unit spacing τ g doubt rounds (pow-pos 128) (pow-pos 105) (lit≤ tt) 48 good Q st r 22 qpos whole (omega arith) known A e p near (omega arith) (omega arith) (omega arith) t t'
+
+-- steps of 2
+pub twice : (k d : ℕ) → 2 * 2 ^ (k + d) ≡ 2 ^ (k + suc d)
+twice k d = rw (add-suc k d, pow-suc 2 (k + d)) (omega arith)
 
 -- ---- a test of several numbers
 
