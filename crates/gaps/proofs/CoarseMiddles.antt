@@ -1,9 +1,9 @@
 -- The powers 2 ^ t for the numbers t of 2 ^ -25 between 0 and 1, against floats: computed, in a few declarations of seconds each.
 -- The 25 is a variable q in all but the tests, so that no power of 2 ^ 25 is computed. Assumes nothing.
-use mathlib.Core.Path.{_≡_, refl}
+use mathlib.Core.Path.{_≡_}
 use mathlib.Core.Bool.{Bool}
-use Prim.Native.Nat.{ℕ, zero, suc, _+_, _-_, _*_, _^_, _≤_, _<_}
-use native.Mathlib.Nat.{one-mul, pow-suc, lt-of-not-le, le-of-eq}
+use Prim.Native.Nat.{ℕ, suc, _+_, _-_, _^_, _≤_}
+use native.Mathlib.Nat.{one-mul, pow-suc}
 use native.Mathlib.Decide.{decLe}
 use native.Mathlib.Omega.{arith}
 use lib.Dec.{T, lit≤}

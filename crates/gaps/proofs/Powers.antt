@@ -1,6 +1,6 @@
 -- No 2 ^ t, for t the fraction of a float, comes nearer than 2 ^ -58 to the middle of two neighbouring floats. Assumes nothing.
-use mathlib.Core.Path.{_≡_, refl}
-use Prim.Native.Nat.{ℕ, zero, suc, _+_, _-_, _*_, _^_, _≤_, _<_}
+use mathlib.Core.Path.{_≡_}
+use Prim.Native.Nat.{ℕ, zero, suc, _+_, _-_, _*_, _^_, _<_}
 use native.Mathlib.Nat.{le-dest, one-mul, mul-assoc}
 use native.Mathlib.Omega.{arith}
 use lib.Pow.{pow-pos, pow-add}

@@ -1,7 +1,6 @@
 -- The powers 2 ^ t for the middles t of floats from 2 ^ -23 to 1 / 2, against floats: computed, in a few declarations of seconds each. Assumes nothing.
 use mathlib.Core.Bool.{Bool}
-use Prim.Native.Nat.{ℕ, _+_, _*_, _^_, _≤_}
-use native.Mathlib.Nat.{mul-comm, pow-suc}
+use Prim.Native.Nat.{ℕ, _+_, _^_, _≤_}
 use native.Mathlib.Omega.{arith}
 use lib.Dec.{T, lit≤}
 use lib.Pow.{pow-pos, pow-mono}

@@ -1,16 +1,15 @@
 -- The roots 2 ^ (1 / 2 ^ i) in units of 2 ^ -128, each the square root of the one before it: one test of 48 squarings is computed. Assumes nothing.
-use mathlib.Core.Path.{_≡_, refl, sym}
+use mathlib.Core.Path.{_≡_, refl}
 use mathlib.Core.Bool.{Bool, true, false, _&&_}
-use Prim.Native.Nat.{ℕ, zero, suc, _+_, _-_, _*_, _/_, _^_, _≤_, _<_}
-use native.Mathlib.Nat.{le-of-eq, mul-one, mul-comm, add-zero, add-suc, suc-add, zero-add, pow-suc, pow-zero, zero-lt-suc}
+use Prim.Native.Nat.{ℕ, zero, suc, _+_, _*_, _/_, _^_, _≤_, _<_}
+use native.Mathlib.Nat.{le-of-eq, mul-comm, add-zero, add-suc, suc-add, zero-add, pow-suc}
 use native.Mathlib.Omega.{arith}
 use lib.Dec.{T, leb, ltb, leb→le, ltb→lt}
 use lib.Pow.{pow-pos}
 use lib.Ieee.Fits.{and-l, and-r}
-use Rattle.exact.specs.Power.{AtMost, AtLeast}
-use Rattle.exact.proofs.Power.{pow-one, most-of-larger, least-of-smaller}
+use Rattle.exact.proofs.Power.{pow-one}
 use Rattle.gaps.proofs.Stretch.{Near}
-use Rattle.gaps.proofs.Values.{RootOf, root-near}
+use Rattle.gaps.proofs.Values.{root-near}
 
 -- Newton's rule from x on towards the root of y, as long as it falls
 unfoldable newton : ℕ → ℕ → ℕ → ℕ

@@ -1,17 +1,16 @@
 -- Where jobs start: at 2 ^ -k, which is a root of two, and at 1 - 2 ^ -k, which is a product of roots; and one step further. Assumes nothing.
-use mathlib.Core.Path.{_≡_, refl}
+use mathlib.Core.Path.{_≡_}
 use Prim.Native.Nat.{ℕ, zero, suc, _+_, _-_, _*_, _/_, _^_, _≤_, _<_}
 use native.Mathlib.Nat.{le-of-eq, le-trans, pow-suc, zero-lt-suc}
 use native.Mathlib.Omega.{arith}
 use lib.Pow.{pow-pos, pow-mono, pow-add}
-use Rattle.exact.specs.Power.{AtMost, AtLeast}
 use Rattle.exact.proofs.Power.{pow-one}
 use Rattle.gaps.proofs.Stretch.{Near}
 use Rattle.gaps.proofs.Values.{rewritten, at-most-two, product}
 use Rattle.gaps.proofs.Roots.{root, Good}
 
 -- 2 ^ (1 - 2 ^ -k), the product of k roots, and how much it may be too low
-unfoldable pub beneath : ℕ → ℕ → ℕ
+unfoldable beneath : ℕ → ℕ → ℕ
 unfolding root
 beneath O zero = O
 beneath O (suc k) = beneath O k * root O (suc k) / O
@@ -35,10 +34,10 @@ beneath-within k d n h = rw (pow-add 2 k d) (le-trans (omega arith) (le-of-eq (t
 
 module _ (O : ℕ) (opos : 0 < O) (known : ℕ) (good : (i : ℕ) → i ≤ known → Good O i) where
   -- one step more
-  pub step-on : {A e p : ℕ} (q : ℕ) → 0 < q → q ≤ known → p ≤ 2 ^ q → Near A e O p (2 ^ q) → Near (A * root O q / O) (2 * e + 5) O (p + 1) (2 ^ q)
+  step-on : {A e p : ℕ} (q : ℕ) → 0 < q → q ≤ known → p ≤ 2 ^ q → Near A e O p (2 ^ q) → Near (A * root O q / O) (2 * e + 5) O (p + 1) (2 ^ q)
   step-on q pos less low near = product opos (root O q) near (at-most-two opos low (near .most)) (good q less .near) (good q less .fits pos)
 
-  pub beneath-near : (k : ℕ) → k ≤ known → Near (beneath O k) (5 * (2 ^ k - 1)) O (2 ^ k - 1) (2 ^ k)
+  beneath-near : (k : ℕ) → k ≤ known → Near (beneath O k) (5 * (2 ^ k - 1)) O (2 ^ k - 1) (2 ^ k)
   unfolding beneath
   beneath-near zero less =
       record {
@@ -58,7 +57,7 @@ module _ (O : ℕ) (opos : 0 < O) (known : ℕ) (good : (i : ℕ) → i ≤ know
   pub root-over : (k d : ℕ) → k ≤ known → Near (root O k) 2 O (2 ^ d) (2 ^ (k + d))
   root-over k d less = rewritten (pow-pos (k + d)) (rw (pow-add 2 k d) (omega arith)) (good k less .near)
 
-  pub beneath-over : (k d : ℕ) → k ≤ known → Near (beneath O k) (5 * (2 ^ k - 1)) O ((2 ^ k - 1) * 2 ^ d) (2 ^ (k + d))
+  beneath-over : (k d : ℕ) → k ≤ known → Near (beneath O k) (5 * (2 ^ k - 1)) O ((2 ^ k - 1) * 2 ^ d) (2 ^ (k + d))
   beneath-over k d less = rewritten (pow-pos (k + d)) (rw (pow-add 2 k d) (omega arith)) (beneath-near k less)
 
   module _ (k d : ℕ) (pos : 0 < k) (less : k + d ≤ known) where
