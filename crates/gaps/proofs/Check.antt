@@ -1,15 +1,15 @@
 -- A whole job in one test: 2 ^ s powers in equal steps, halved until each part is a stretch that passes. Assumes nothing.
-use mathlib.Core.Path.{_≡_, refl}
+use mathlib.Core.Path.{_≡_}
 use mathlib.Core.Bool.{Bool, true, false}
 use Prim.Native.Nat.{ℕ, zero, suc, _+_, _-_, _*_, _/_, _^_, _≤_, _<_}
-use native.Mathlib.Nat.{le-trans, le-dest, le-of-lt, lt-of-not-le, one-le-mul, mul-add, mul-one, add-assoc, pow-suc, pow-zero, le-mul-of-pos-right}
+use native.Mathlib.Nat.{le-trans, le-dest, le-of-lt, lt-of-not-le, mul-add, add-assoc, pow-suc, le-mul-of-pos-right}
 use native.Mathlib.Decide.{decLe}
 use native.Mathlib.Omega.{arith}
 use lib.Dec.{T}
 use lib.Pow.{pow-pos, suc-ones}
 use Rattle.exact.specs.Power.{AtMost, AtLeast}
 use Rattle.gaps.proofs.Stretch.{Away, Near, ok, then-both, stretch-away}
-use Rattle.gaps.proofs.Numbers.{slopeOf, bowOf, thirdOf, overOf, firstOf, widthOf, will-do, numbers-of}
+use Rattle.gaps.proofs.Numbers.{slopeOf, firstOf, widthOf, will-do, numbers-of}
 use Rattle.gaps.proofs.Values.{at-most-two, product}
 use Rattle.gaps.proofs.Roots.{nextRoot}
 
@@ -40,7 +40,7 @@ module _ (O M τ g E C : ℕ) where
 
   module _ (c : ℕ) where
     -- a part of n powers is tried where numbers for it will do
-    unfoldable pub layer : ℕ → ℕ → Plan → Plan
+    unfoldable layer : ℕ → ℕ → Plan → Plan
     unfolding will-do slopeOf firstOf widthOf
     layer n h P = elim (will-do O M τ g E C c n) [ true ↦ try (n - 1) (slopeOf O M τ g E C c n) (firstOf O M τ g E C c n) (widthOf O M τ g E C c n) h P | false ↦ halve h P ]
 
@@ -61,9 +61,9 @@ module _ (O M τ g E C : ℕ) where
           stretch-away O M τ g E C c (2 ^ s - 1) _ _ _ _ _ _ (rw (suc-ones s) at (numbers-of O M τ g E C c (2 ^ s - 1) (rw (suc-ones s) will))) opos mpos small
           near few (at-most-two opos within (near .most)) step step' t j (omega arith) z
 
-      either : (x y : Bool) → (T x → Clear O M τ g Q st p s) → T (elim x [ true ↦ true | false ↦ elim (check P A) [ true ↦ check P (A * h / O) | false ↦ false ] ]) → Clear O M τ g Q st p s
-      either true y stretch t = stretch tt
-      either false y stretch t = let (a, b) = then-both (check P A) (check P (A * h / O)) t in halves a b
+      either : (x : Bool) → (T x → Clear O M τ g Q st p s) → T (elim x [ true ↦ true | false ↦ elim (check P A) [ true ↦ check P (A * h / O) | false ↦ false ] ]) → Clear O M τ g Q st p s
+      either true stretch t = stretch tt
+      either false stretch t = let (a, b) = then-both (check P A) (check P (A * h / O)) t in halves a b
 
       layer-clear : (x : Bool) → (T x → T (will-do O M τ g E C c (2 ^ s))) →
           T (check (elim x [
@@ -71,7 +71,7 @@ module _ (O M τ g E C : ℕ) where
             | false ↦ halve h P
           ]) A) → Clear O M τ g Q st p s
       unfolding check
-      layer-clear true will t = either (ok O M τ g E C (2 ^ s - 1) (slopeOf O M τ g E C c (2 ^ s)) (firstOf O M τ g E C c (2 ^ s)) (widthOf O M τ g E C c (2 ^ s)) A) true (tried (will tt)) t
+      layer-clear true will t = either (ok O M τ g E C (2 ^ s - 1) (slopeOf O M τ g E C c (2 ^ s)) (firstOf O M τ g E C c (2 ^ s)) (widthOf O M τ g E C c (2 ^ s)) A) (tried (will tt)) t
       layer-clear false will t = let (a, b) = then-both (check P A) (check P (A * h / O)) t in halves a b
 
     same : (s : ℕ) {x y : ℕ} → x ≡ y → (A : ℕ) → T (check (plan c s x) A) → T (check (plan c s y) A)

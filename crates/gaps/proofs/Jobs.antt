@@ -1,12 +1,12 @@
 -- A job: 2 ^ top powers from a start on in steps of 1 / 2 ^ r, planned by the roots of two, and what it says when it passes. Assumes nothing.
-use mathlib.Core.Path.{_≡_, refl, ap}
+use mathlib.Core.Path.{_≡_}
 use mathlib.Core.Bool.{Bool}
 use Prim.Native.Nat.{ℕ, suc, _+_, _-_, _*_, _/_, _^_, _≤_, _<_}
-use native.Mathlib.Nat.{le-trans, mul-le-mul-right, mul-one, mul-assoc, add-assoc, pow-zero}
+use native.Mathlib.Nat.{le-trans, mul-le-mul-right, mul-one, add-assoc, pow-zero}
 use native.Mathlib.Omega.{arith}
 use lib.Dec.{T}
 use lib.Pow.{pow-add}
-use Rattle.exact.specs.Power.{AtMost, AtLeast}
+use Rattle.exact.specs.Power.{AtLeast}
 use Rattle.gaps.proofs.Stretch.{Near}
 use Rattle.gaps.proofs.Values.{rewritten, at-most-two, product}
 use Rattle.gaps.proofs.Roots.{root, root-suc, nextRoot, Good}

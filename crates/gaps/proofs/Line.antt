@@ -1,15 +1,15 @@
 -- Powers 2 ^ t in equal steps of t lie near a straight line: bounds of (1 + c) ^ j by its first terms, and from them bounds by a line whose numbers were rounded.
 -- A number v stands for v / O. The numbers c and lo, d, u, hi are what a computed test accepts. Assumes nothing.
 use mathlib.Core.Path.{_≡_, refl, ap}
-use Prim.Native.Nat.{ℕ, zero, suc, _+_, _-_, _*_, _/_, _≤_, _<_}
-use native.Mathlib.Nat.{le-trans, le-dest, one-le-mul, mul-zero, mul-suc, mul-comm, add-zero, add-assoc, mul-le-mul, mul-le-mul-left, mul-le-mul-right, le-div-iff-mul-le, le-of-lt, lt-of-not-le, le-of-mul-le-mul-right}
+use Prim.Native.Nat.{ℕ, zero, suc, _+_, _*_, _/_, _≤_, _<_}
+use native.Mathlib.Nat.{le-trans, le-dest, one-le-mul, mul-zero, mul-suc, add-zero, add-assoc, mul-le-mul, mul-le-mul-left, mul-le-mul-right, le-div-iff-mul-le, le-of-lt, lt-of-not-le}
 use native.Mathlib.Decide.{decLe}
 use native.Mathlib.Omega.{arith}
 use Rattle.exact.specs.Power.{AtMost, AtLeast}
 use Rattle.exact.proofs.Power.{most-of-less, least-of-more, most-mul, least-mul}
 
 -- pairs among j things
-unfoldable pub pairs : ℕ → ℕ
+unfoldable pairs : ℕ → ℕ
 pairs zero = 0
 pairs (suc j) = pairs j + j
 
@@ -23,7 +23,7 @@ twice-pairs (suc j) = omega (arith, twice-pairs j)
 
 module _ {O Q st p : ℕ} (pos : 0 < O) where
   -- 1 + j c + pairs c c, all over O
-  pub low-terms : {A : ℕ} (c : ℕ) → AtMost A O p 0 Q → AtMost (O + c) O st 0 Q → (j : ℕ) →
+  low-terms : {A : ℕ} (c : ℕ) → AtMost A O p 0 Q → AtMost (O + c) O st 0 Q → (j : ℕ) →
       AtMost (A * (O * O + j * c * O + pairs j * c * c)) (O * O * O) (p + st * j) 0 Q
   unfolding pairs
   low-terms {A} c start step zero = rw (mul-zero st, add-zero p) (most-of-less (one-le-mul (one-le-mul pos pos) pos) (omega arith) start)
@@ -34,7 +34,7 @@ module _ {O Q st p : ℕ} (pos : 0 < O) where
       through t = omega arith
 
   -- 1 + j c + pairs c c + j ^ 3 c ^ 3 / 5, all over O, as long as j c is at most 1 / 2
-  pub high-terms : {A : ℕ} (c : ℕ) → AtLeast A O p 0 Q → AtLeast (O + c) O st 0 Q → (j : ℕ) → 2 * (j * c) ≤ O →
+  high-terms : {A : ℕ} (c : ℕ) → AtLeast A O p 0 Q → AtLeast (O + c) O st 0 Q → (j : ℕ) → 2 * (j * c) ≤ O →
       AtLeast (A * (10 * (O * O * O) + 10 * (j * c * O * O) + 10 * (pairs j * c * c * O) + 2 * (j * j * j * c * c * c))) (10 * (O * O * O * O)) (p + st * j) 0 Q
   unfolding pairs
   high-terms {A} c start step zero small =

@@ -1,22 +1,20 @@
 -- The numbers of a stretch, made from c and the count of its powers, and one test of all that is asked of them. Assumes nothing.
-use mathlib.Core.Path.{_≡_, refl, ap}
-use mathlib.Core.Bool.{Bool, true, false, _&&_}
-use Prim.Native.Nat.{ℕ, suc, _+_, _-_, _*_, _/_, _≤_, _<_}
-use native.Mathlib.Omega.{arith}
+use mathlib.Core.Bool.{Bool, _&&_}
+use Prim.Native.Nat.{ℕ, suc, _+_, _-_, _*_, _/_}
 use lib.Dec.{T, leb, eqb, leb→le, eqb→eq}
 use lib.Ieee.Fits.{and-l, and-r}
 use Rattle.gaps.proofs.Stretch.{Numbers}
 
 module _ (O M τ g E C : ℕ) where
   -- all that `Numbers` asks
-  unfoldable pub asked : ℕ → ℕ → ℕ → ℕ → ℕ → ℕ → ℕ → ℕ → Bool
+  unfoldable asked : ℕ → ℕ → ℕ → ℕ → ℕ → ℕ → ℕ → ℕ → Bool
   asked c n d lo u hi k w =
       leb (2 * (O * d) + c * c) (2 * (O * c) + n * (c * c)) && leb (n * n / 4 * (c * c)) (O * lo)
       && leb (2 * (O * (c + 2)) + n * ((c + 2) * (c + 2))) (2 * (O * (d + 8)) + (c + 2) * (c + 2)) && leb (n * n * n * ((c + 2) * (c + 2) * (c + 2))) (5 * (O * O * u))
       && leb (2 * (n * (c + 2))) O && leb (n * d) O && leb (2 * E + 25 * n + 3 * u) hi
       && eqb (k + (g + hi)) (τ + M * C) && leb (2 * O) k && leb (2 * g + lo + hi) w
 
-  pub asked-numbers : (c N d lo u hi k w : ℕ) → T (asked c (suc N) d lo u hi k w) → Numbers O M τ g E C c N d lo u hi k w
+  asked-numbers : (c N d lo u hi k w : ℕ) → T (asked c (suc N) d lo u hi k w) → Numbers O M τ g E C c N d lo u hi k w
   unfolding asked
   asked-numbers c N d lo u hi k w t =
       record {

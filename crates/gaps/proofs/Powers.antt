@@ -1,25 +1,14 @@
 -- No 2 ^ t, for t the fraction of a float, comes nearer than 2 ^ -58 to the middle of two neighbouring floats. Assumes nothing.
-use mathlib.Core.Path.{_≡_, refl}
-use Prim.Native.Nat.{ℕ, zero, suc, _+_, _-_, _*_, _^_, _≤_, _<_}
-use native.Mathlib.Nat.{le-dest, one-mul, mul-assoc, mul-le-mul-right}
+use mathlib.Core.Path.{_≡_}
+use Prim.Native.Nat.{ℕ, zero, suc, _+_, _-_, _*_, _^_, _<_}
+use native.Mathlib.Nat.{le-dest, one-mul, mul-assoc}
 use native.Mathlib.Omega.{arith}
-use lib.Dec.{lit≤}
 use lib.Pow.{pow-pos, pow-add}
-use Rattle.exact.specs.Power.{AtMost, AtLeast}
-use Rattle.exact.proofs.Power.{most-of-less, least-of-more}
-use Rattle.gaps.specs.Apart.{Apart, above, below, OffMiddles, Rising, Falling}
-use Rattle.gaps.proofs.Stretch.{Away, over, under}
+use Rattle.gaps.specs.Apart.{OffMiddles, Rising, Falling}
+use Rattle.gaps.proofs.Stretch.{Away}
+use Rattle.gaps.proofs.Distance.{apart}
 use Rattle.gaps.proofs.Rising.{rising-clear}
 use Rattle.gaps.proofs.Falling.{falling-clear}
-
--- the same distance in finer units
-pub apart : {p Q : ℕ} (a G D : ℕ) → 0 < D → Away (a * G) G (D * G) p Q → Apart a D p Q
-apart a G D pos (over h) = above (most-of-less pos (omega arith) h)
-apart a G D pos (under u less h) = below (least-of-more pos (through a less) h)
-  where
-    through : (n : ℕ) → u + G ≤ n * G → u * D ≤ (n - 1) * (D * G)
-    through zero l = omega (arith, mul-le-mul-right D l)
-    through (suc n) l = let e : suc n - 1 ≡ n = omega arith in rw e (omega (arith, mul-le-mul-right D l))
 
 -- the middles, in units of 2 ^ -128
 off : (p Q : ℕ) → ((z : ℕ) → Away (2 ^ 104 + 2 ^ 105 * z) (2 ^ 70) (2 ^ 128) p Q) → OffMiddles p Q

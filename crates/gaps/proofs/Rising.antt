@@ -1,16 +1,14 @@
 -- The powers 2 ^ t for the floats t from 2 ^ -24 to 1, against the middles of floats: computed, in a few declarations of seconds each. Assumes nothing.
-use mathlib.Core.Path.{_≡_}
 use mathlib.Core.Bool.{Bool}
-use Prim.Native.Nat.{ℕ, _+_, _*_, _^_, _≤_, _<_}
-use native.Mathlib.Nat.{one-mul, lt-of-not-le}
-use native.Mathlib.Decide.{decLe}
+use Prim.Native.Nat.{ℕ, _+_, _^_, _≤_}
+use native.Mathlib.Nat.{one-mul}
 use native.Mathlib.Omega.{arith}
 use lib.Dec.{T, lit≤}
 use lib.Pow.{pow-pos, pow-mono}
 use Rattle.gaps.proofs.Roots.{unit, root, good}
 use Rattle.gaps.proofs.Check.{Clear}
 use Rattle.gaps.proofs.Starts.{root-over}
-use Rattle.gaps.proofs.Binades.{spacing, first, second, binade-clear, each, each-sound}
+use Rattle.gaps.proofs.Binades.{spacing, first, second, binade-clear, Every, each, every, and-every}
 
 -- the two halves of the floats from 2 ^ -k on
 unfoldable firsts : ℕ → Bool
@@ -45,15 +43,13 @@ seconds-4 : T (each seconds 21 4)
 unfolding each seconds
 seconds-4 = tt
 
-all : (test : ℕ → Bool) → T (each test 1 1) → T (each test 2 2) → T (each test 21 4) → (k : ℕ) → 1 ≤ k → k ≤ 24 → T (test k)
-all test one two four k pos low = elim (decLe 4 k) [
-  | yes l ↦ each-sound test 21 4 four k l (omega arith)
-  | no n ↦ elim (decLe 2 k) [ yes l ↦ each-sound test 2 2 two k l (omega arith) | no m ↦ each-sound test 1 1 one k pos (omega arith) ]
-]
+-- together all from 1 to 24
+all : (test : ℕ → Bool) → T (each test 1 1) → T (each test 2 2) → T (each test 21 4) → Every test 24 1
+all test one two four = and-every test 1 23 1 (every test 1 1 one) (and-every test 2 21 2 (every test 2 2 two) (every test 21 4 four))
 
 pub rising-clear : (k : ℕ) → 1 ≤ k → k ≤ 24 → Clear unit spacing (2 ^ 104) (2 ^ 70) (2 ^ (k + 23)) 1 (2 ^ 23) 23
 unfolding firsts seconds
 rising-clear k pos low =
     binade-clear (2 ^ 104) (2 ^ 70) (2 ^ (k + 23)) 1 (k + 23) (pow-pos (k + 23)) (one-mul (2 ^ (k + 23))) (omega arith) (omega arith) (root unit k) 2 (2 ^ 23)
     (root-over unit (pow-pos 128) 48 good k 23 (omega arith)) (lit≤ tt) (pow-mono {i = 24} (omega arith))
-    (all firsts firsts-1 firsts-2 firsts-4 k pos low) (all seconds seconds-1 seconds-2 seconds-4 k pos low)
+    (all firsts firsts-1 firsts-2 firsts-4 k pos (omega arith)) (all seconds seconds-1 seconds-2 seconds-4 k pos (omega arith))

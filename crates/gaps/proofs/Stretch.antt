@@ -1,16 +1,15 @@
 -- One stretch: n powers 2 ^ t in equal steps of t, none of which comes near a number τ + M z. The numbers of a stretch's line are made from c, and tested.
 -- A number v stands for v / O. Assumes nothing.
 use mathlib.Core.Path.{_≡_, refl}
-use mathlib.Core.Bool.{Bool, true, false, _&&_}
-use Prim.Native.Nat.{ℕ, zero, suc, _+_, _-_, _*_, _/_, _%_, _≤_, _<_}
-use native.Mathlib.Nat.{le-trans, le-dest, le-of-lt, lt-of-not-le, mul-le-mul-left, mul-le-mul-right, mul-add, div-add-mod, div-mul-le-self, lt-div-mul-add, sub-add-cancel, add-sub-cancel}
+use mathlib.Core.Bool.{Bool, true, false}
+use Prim.Native.Nat.{ℕ, suc, _+_, _-_, _*_, _/_, _%_, _≤_, _<_}
+use native.Mathlib.Nat.{le-dest, le-of-lt, lt-of-not-le, mul-le-mul-left, mul-le-mul-right, mul-add, div-add-mod, div-mul-le-self, lt-div-mul-add}
 use native.Mathlib.Decide.{decLe}
 use native.Mathlib.Omega.{arith}
 use lib.Dec.{T, leb, leb→le}
-use lib.Ieee.Fits.{and-l, and-r}
 use Rattle.exact.specs.Power.{AtMost, AtLeast}
 use Rattle.exact.proofs.Power.{least-of-more}
-use Rattle.gaps.proofs.Steps.{free, free-sound, Hit}
+use Rattle.gaps.proofs.Steps.{free, free-sound}
 use Rattle.gaps.proofs.Line.{LineBelow, LineAbove, line-below, line-above}
 
 -- 2 ^ (p / Q) is no nearer to v / O than g / O
@@ -59,7 +58,7 @@ module _ (O M τ g E C : ℕ) where
         inside (x, e) = (x, omega (arith, rounds), omega (arith, rounds))
           where
             rounds : M * C + M * x ≡ M * y + M * z
-            rounds = rw (← mul-add, ← mul-add, e) refl
+            rounds = rw (← mul-add M C x, ← mul-add M y z, e) refl
 
         outside : M * suc (y + z) ≤ M * C → ⊥
         outside h = omega arith

@@ -1,7 +1,7 @@
 -- Products and square roots of values that are near a power of two. A number v stands for v / O. Assumes nothing.
 use mathlib.Core.Path.{_≡_, refl}
-use Prim.Native.Nat.{ℕ, zero, suc, _+_, _-_, _*_, _/_, _^_, _≤_, _<_}
-use native.Mathlib.Nat.{le-trans, le-of-eq, one-le-mul, mul-one, mul-le-mul, mul-le-mul-left, mul-le-mul-right, pow-zero, div-mul-le-self, lt-div-mul-add, le-of-lt}
+use Prim.Native.Nat.{ℕ, suc, _+_, _*_, _/_, _≤_, _<_}
+use native.Mathlib.Nat.{le-trans, le-of-eq, one-le-mul, mul-le-mul-right, pow-zero, div-mul-le-self, lt-div-mul-add, le-of-lt}
 use native.Mathlib.Omega.{arith}
 use Rattle.exact.specs.Power.{AtMost, AtLeast}
 use Rattle.exact.proofs.Power.{one-pow, pow-two, pow-mul, most-of-less, least-of-more, most-of-larger, least-of-smaller, most-mul, least-mul, through-power}
@@ -37,10 +37,10 @@ rewritten pos same near = record { most = most-of-larger pos (omega arith) (near
 
 -- a value to the half of an exponent
 module _ {n d p q : ℕ} where
-  pub most-root : AtMost (n * n) (d * d) p 0 q → 0 < d → AtMost n d p 0 (2 * q)
+  most-root : AtMost (n * n) (d * d) p 0 q → 0 < d → AtMost n d p 0 (2 * q)
   most-root h pos = record { per = pos; root = omega (arith, h .root); holds = rw (pow-mul n 2 q, pow-mul d 2 q, pow-two n, pow-two d) (h .holds) }
 
-  pub least-root : AtLeast (n * n) (d * d) p 0 q → 0 < d → AtLeast n d p 0 (2 * q)
+  least-root : AtLeast (n * n) (d * d) p 0 q → 0 < d → AtLeast n d p 0 (2 * q)
   least-root h pos = record { per = pos; root = omega (arith, h .root); holds = rw (pow-mul n 2 q, pow-mul d 2 q, pow-two n, pow-two d) (h .holds) }
 
 -- x is the square root of y / O, rounded down
