@@ -1,9 +1,9 @@
 -- Open digits: the second evaluation is 63 units of 2 ^ -64 below the power at most, and the middles are 64 away, so that its digits tell the nearest float. Assumes nothing.
-use mathlib.Core.Path.{_≡_, refl, sym, ap, _∙_, subst}
+use mathlib.Core.Path.{_≡_, sym, ap, subst}
 use Prim.Native.Nat.{ℕ, _+_, _-_, _*_, _/_, _^_, _≤_, _<_}
-use native.Mathlib.Nat.{le-trans, le-of-eq, mul-pos, le-of-mul-le-mul-right, mul-lt-mul-of-pos-right}
+use native.Mathlib.Nat.{le-of-eq, mul-pos, le-of-mul-le-mul-right}
 use native.Mathlib.Omega.{arith}
-use lib.Dec.{lit<, lit≤}
+use lib.Dec.{lit<}
 use lib.Pow.{pow-pos}
 use lib.Ieee.{Float}
 use Rattle.units.specs.Units.{P, N}

@@ -1,6 +1,6 @@
 -- The promise of 2 ^ x, put together from the rooms: Told and Decided (the digits, open or not), Reduction (the argument), Middles (what follows). Assumes nothing.
 use mathlib.Core.Path.{_≡_, refl, sym, ap, subst, _∙_}
-use mathlib.Core.Logic.{inl, inr}
+use mathlib.Core.Logic.{inr}
 use mathlib.Core.Bool.{Bool, true, false, cond}
 use Prim.Native.Nat.{ℕ, _+_, _-_, _*_, _/_, _%_, _^_, _≤_, _<_}
 use native.Mathlib.Nat.{le-trans, mod-lt, one-le-mul, mul-sub, mul-le-mul-right, le-mul-of-pos-right}

@@ -11,7 +11,7 @@ use borrow.Author.Tests.{leb-false}
 use lib.Ieee.{Float}
 use Rattle.units.specs.Units.{P, N}
 use Rattle.units.proofs.Naturals.{le-or-lt}
-use Rattle.exact.specs.Power.{AtMost, AtLeast, LessThan, MoreThan}
+use Rattle.exact.specs.Power.{AtMost, AtLeast, LessThan}
 use Rattle.exact.proofs.Power.{pow-one, most-of-less, most-of-larger, least-of-smaller, most-shift, least-shift, through-power}
 use Rattle.exact.proofs.Strict.{less-of-less, more-of-more}
 use Rattle.powers.specs.Exp2.{Accepts}

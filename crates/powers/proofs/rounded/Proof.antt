@@ -1,6 +1,6 @@
 -- `powers::rounded` meets its contract: the digits of the fraction, put together with the whole part. Assumes nothing.
 use borrow.Author.Needs.{needs}
-use mathlib.Core.Path.{_≡_, ap, _∙_}
+use mathlib.Core.Path.{ap, _∙_}
 use Prim.Native.Nat.{ℕ, _+_, _*_, _/_}
 use Rattle.powers.specs.Value.{roundedDigits, powerDigits, roundedPower}
 use Rattle.powers.proofs.rounded.Statement.{statement}
