@@ -68,9 +68,9 @@ uint32_t ear_rsqrt(float x, float *out);
  * 2 to the power x.
  *
  * Accepts: every x with -126 <= x <= 127.
- * Result:  within 515 / 2^33 (below 2^-23.99) of the real number 2^x,
- *          relatively. Exactly 2^x where x is a whole number. Always a normal
- *          float.
+ * Result:  the float nearest to the real number 2^x; no tie occurs. So it is
+ *          within 2^-24 of it, relatively, and exactly 2^x where x is a whole
+ *          number. Always a normal float.
  * Order:   never falls as x grows.
  * Refuses: NaN, both infinities, every x < -126 and every x > 127 with
  *          EAR_OUT_OF_RANGE; *out stays as it was.

@@ -186,7 +186,9 @@ static void held(const struct contest *c, int who)
     state = 1;
     for (uint32_t i = 0; i < calls; i++) {
         float x = next(&c->inputs);
-        uint32_t count = instructions(c->calls[who](x)), deep = i < LISTS ? depth(c->calls[who], x) : 0;
+        uint32_t count = instructions(c->calls[who](x));
+        /* and where a call takes more than any before, since a rare way may go deeper */
+        uint32_t deep = i < LISTS || count > most ? depth(c->calls[who], x) : 0;
         sum += count;
         most = count > most ? count : most;
         deepest = deep > deepest ? deep : deepest;

@@ -38,15 +38,26 @@ static const uint32_t edge_powers[][2] = {
 
 enum { EDGE_POWERS = sizeof edge_powers / sizeof edge_powers[0] };
 
+/* The five powers that are nearest to the middle of two floats, 2^-58 to 2^-52 away: the second and the third are beyond a double. */
+static const uint32_t hardest_powers[][2] = {
+    {0xb52d1f9a, 0x3f7ffff8}, {0xbcf3a937, 0x3f7ac6b1}, {0x3b429d37, 0x3f804385}, {0xb8d3d026, 0x3f7ffb69},
+    {0xbaec2b40, 0x3f7fae34},
+};
+
+enum { HARDEST_POWERS = sizeof hardest_powers / sizeof hardest_powers[0] };
+
 static void powers(void)
 {
-    int rows = 0, edges = 0;
+    int rows = 0, edges = 0, hardest = 0;
     for (int i = 0; i < POWER_ROWS; i++)
         rows += gives("ear_exp2", ear_exp2, power_rows[i][0], power_rows[i][1]);
     for (int i = 0; i < EDGE_POWERS; i++)
         edges += gives("ear_exp2", ear_exp2, edge_powers[i][0], edge_powers[i][1]);
+    for (int i = 0; i < HARDEST_POWERS; i++)
+        hardest += gives("ear_exp2", ear_exp2, hardest_powers[i][0], hardest_powers[i][1]);
     group(rows == POWER_ROWS, "ear_exp2: %d of %d values of document 01, section 8", rows, POWER_ROWS);
     group(edges == EDGE_POWERS, "ear_exp2: %d of %d powers at and next to whole numbers", edges, EDGE_POWERS);
+    group(hardest == HARDEST_POWERS, "ear_exp2: %d of %d powers that are nearest to the middle of two floats", hardest, HARDEST_POWERS);
 }
 
 /* e^x at both zeros and next to them, at and next to both ends of the range, and at the float next to ln 2: the nearest floats. */

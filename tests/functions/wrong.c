@@ -79,6 +79,15 @@ static uint32_t power_cut_off(float x, float *out)
     return code;
 }
 
+/* Off by 2^-33 before it is rounded: within 2^-23.99, but not the nearest. */
+static uint32_t power_a_little_off(float x, float *out)
+{
+    uint32_t code = ear_exp2(x, out);
+    if (code == EAR_OK && x != floorf(x))
+        *out = (float)(exp2(x) * (1 + 0x1p-33));
+    return code;
+}
+
 static uint32_t accepts_127_and_a_half(float x, float *out)
 {
     return ear_exp2(x > 127 && x < 128 ? 127 : x, out);
@@ -245,6 +254,7 @@ static const struct wrong {
     {"a reciprocal root rounded twice", one_over_the_root, ear_rsqrt, 0x3f800003, WRONG_VALUE},
     {"a 2^x whose pieces do not meet", pieces_that_do_not_meet, ear_exp2, 0x3f800000, OUT_OF_ORDER},
     {"a 2^x that cuts off instead of rounding", power_cut_off, ear_exp2, 0x3f800001, WRONG_VALUE},
+    {"a 2^x that is 2^-33 off before it is rounded", power_a_little_off, ear_exp2, 0x3f8004a4, WRONG_VALUE},
     {"a 2^x that accepts 127.5", accepts_127_and_a_half, ear_exp2, 0x42ff0000, WRONG_CODE},
     {"an e^x whose x log2 e is a float", product_as_a_float, ear_exp, 0x42af0001, WRONG_VALUE},
     {"an e^x with e as one float", another_base, ear_exp, 0x42af0000, WRONG_VALUE},

@@ -100,13 +100,6 @@ bool within_relative(const struct function *f, float x, float result)
     return fabs(result - exact) <= f->bound * fabs(exact);
 }
 
-bool near_power(const struct function *f, float x, float result)
-{
-    if (x == floorf(x))
-        return result == ldexpf(1, (int)x);
-    return within_relative(f, x, result);
-}
-
 bool near_exponential(const struct function *f, float x, float result)
 {
     return x == 0 ? result == 1 : within_relative(f, x, result);

@@ -34,7 +34,7 @@ pub extern "C" fn ear_rsqrt(x: f32, out: &mut u32) -> u32
     roots::rsqrt(x, out)
 }
 
-// 2 to the power of every bit pattern: within 515 / 2^33 of it, or code 1 and nothing written.
+// 2 to the power of every bit pattern: the nearest float, or code 1 and nothing written.
 #[no_mangle]
 pub extern "C" fn ear_exp2(x: f32, out: &mut u32) -> u32
     ensures { λ code. ⌜ Ends floatBits (Exp2 x) code (now (out .entry)) (now (out .exit)) ⌝ }

@@ -1,4 +1,5 @@
 pub mod Power
+pub mod Strict
 pub mod Neighbours
 pub mod Polynomial
 pub mod Growth

@@ -48,15 +48,15 @@ module _ (base : Base) (x : Float) (a : Accepts x) where
       through b d c n z r G h = omega (arith, mul-le-mul-right (r * G) h)
 
   -- what the floors lose, in parts of the power
-  floors : (4 * raised f + 5) * D + 32 * f ≤ raised f * (4 * D + 25)
+  floors : (4 * raised f + 5) * D + 21 * f ≤ raised f * (4 * D + 25)
   floors = omega (arith, raised-rises f)
 
   below : PowerAtLeast base ((D + fixedBelow) * (raised f * 2 ^ g)) (D * 2 ^ 158) x
   below =
       power-least-of-more (lit< tt)
-      (through (D + fixedBelow) (D * 2 ^ 158) _ (2 * D + 1) (1000 * D + 742) (4 * D + 25) (raised f) (2 ^ g) ((4 * raised f + 5) * D + 32 * f) floors (lit≤ tt)) whole
+      (through (D + fixedBelow) (D * 2 ^ 158) _ (2 * D + 1) (1000 * D + 742) (4 * D + 25) (raised f) (2 ^ g) ((4 * raised f + 5) * D + 21 * f) floors (lit≤ tt)) whole
     where
-      whole : PowerAtLeast base ((2 * D + 1) * ((4 * raised f + 5) * D + 32 * f) * 2 ^ g * (1000 * D + 742)) (2 * D * (4 * D * D) * 2 ^ 126 * (1000 * D)) x
+      whole : PowerAtLeast base ((2 * D + 1) * ((4 * raised f + 5) * D + 21 * f) * 2 ^ g * (1000 * D + 742)) (2 * D * (4 * D * D) * 2 ^ 126 * (1000 * D)) x
       whole = least-of-cut x a base (rw parts at (least-shift g 126 (raised-least f fraction)))
 
       through : (b d c n z k r G s : ℕ) → s ≤ r * k → n * k * z * d ≤ b * c → n * s * G * z * d ≤ b * (r * G) * c

@@ -3,7 +3,13 @@ pub mod Rounding
 pub mod Reduction
 pub mod Taken
 pub mod Order
+pub mod Middles
+pub mod Told
+pub mod Places
+pub mod Covered
+pub mod Decided
 pub mod Promise
+pub mod Unique
 pub mod NaturalTaken
 pub mod NaturalReduction
 pub mod NaturalPromise

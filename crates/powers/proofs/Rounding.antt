@@ -44,7 +44,7 @@ module _ (f : ℕ) (small : f ≤ D) where
   half-above = omega (arith, least)
 
   -- with the floors they are less by half a step and a quarter of a unit at most, and a little that a hundredth of a quarter covers: what the floors lose in proportion to f, the power has gained
-  half-below : 100 * ((4 * raised f + 5) * D + 32 * f) ≤ 512 * powerDigits f * (400 * D + 102501)
+  half-below : 100 * ((4 * raised f + 5) * D + 21 * f) ≤ 512 * powerDigits f * (400 * D + 102501)
   unfolding powerDigits
   half-below = omega (arith, digits-first f, raised-rises f)
 
@@ -59,7 +59,7 @@ module _ (f : ℕ) (small : f ≤ D) where
   pub digits-least : AtLeast ((2 * D + 1) * (400 * D + 102501) * (512 * powerDigits f)) (2 * D * (400 * D * D)) f 0 D
   digits-least =
       least-of-more (lit< tt)
-      (through D (400 * D + 102501) (512 * powerDigits f) ((4 * raised f + 5) * D + 32 * f) half-below) (raised-least f small)
+      (through D (400 * D + 102501) (512 * powerDigits f) ((4 * raised f + 5) * D + 21 * f) half-below) (raised-least f small)
     where
       through : (d h s r : ℕ) → 100 * r ≤ s * h → (2 * d + 1) * r * (2 * d * (400 * d * d)) ≤ (2 * d + 1) * h * s * (2 * d * (4 * d * d))
       through d h s r l = omega (arith, mul-le-mul-left (2 * d * ((2 * d + 1) * (4 * d * d))) l)

@@ -63,8 +63,8 @@ record Size (x : Float) (b : ℕ) : Type 0 where
   steps : stepsOf b ≡ mag x / K
 
 module _ (x : Float) (a : Accepts x) where
-  small : mag x < 2 ^ 156
-  small = elim (sides x) [
+  pub size-small : mag x < 2 ^ 156
+  size-small = elim (sides x) [
     | inl h ↦ lt-of-le-of-lt (le-trans (le-of-eq (sym (h .0))) (a .at-most)) (lit< tt)
     | inr h ↦ lt-of-le-of-lt (le-trans (le-of-eq (sym (h .1))) (a .at-least)) (lit< tt)
   ]
@@ -87,7 +87,7 @@ module _ (x : Float) (a : Accepts x) where
   taken = elim (le-or-lt (2 ^ 23) (mag x)) [
     | inl l ↦
         let t = pattern-normal x (a .number) l in
-        let high : 23 + t .k < 156 = pow-back-lt (23 + t .k) 156 (lt-of-le-of-lt (le-trans (le-of-eq (pow-add 2 23 (t .k))) (mul-le-mul-right (2 ^ t .k) (t .least))) (lt-of-le-of-lt (le-of-eq (sym (t .units))) small)) in
+        let high : 23 + t .k < 156 = pow-back-lt (23 + t .k) 156 (lt-of-le-of-lt (le-trans (le-of-eq (pow-add 2 23 (t .k))) (mul-le-mul-right (2 ^ t .k) (t .least))) (lt-of-le-of-lt (le-of-eq (sym (t .units))) size-small)) in
         let digits : t .m < 16777216 = t .digits in
         (t .k * 8388608 + t .m, record { bits = t .bits; below = omega arith; steps = normal-steps (t .k) (t .m) (t .units) (t .least) digits (omega arith) })
     | inr l ↦
@@ -108,14 +108,14 @@ module _ (x : Float) (a : Accepts x) where
       go false t e = omega arith
 
   -- the sign, by its bit
-  plus-sign : toBits binary32 x < 2147483648 → negative x ≡ false
+  pub plus-sign : toBits binary32 x < 2147483648 → negative x ≡ false
   plus-sign l = go (negative x) (taken .1 .bits)
     where
       go : (s : Bool) → toBits binary32 x ≡ signBit s + taken .0 → s ≡ false
       go true e = absurd (omega arith)
       go false e = refl
 
-  minus-sign : 2147483648 ≤ toBits binary32 x → negative x ≡ true
+  pub minus-sign : 2147483648 ≤ toBits binary32 x → negative x ≡ true
   minus-sign l = go (negative x) (taken .1 .bits) (taken .1 .below)
     where
       go : (s : Bool) → toBits binary32 x ≡ signBit s + taken .0 → taken .0 < 134 * 8388608 → s ≡ true

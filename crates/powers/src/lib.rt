@@ -11,8 +11,12 @@ ghost use lib.Ieee.{binary32, toBits};
 ghost use Rattle.powers.specs.Raised.{raised};
 ghost use Rattle.units.specs.Answers.{Ends, floatBits};
 ghost use Rattle.units.specs.Tests.{Tells};
-ghost use Rattle.powers.specs.Value.{stepsOf, cutOf, roundedPower};
+ghost use Rattle.units.specs.Units.{mag};
+ghost use Rattle.powers.specs.Value.{stepsOf, cutOf, roundedDigits, roundedPower, isOpen, fractionOf, fineDigits, exp2Bits};
 ghost use Rattle.powers.specs.Exp2.{Accepts, Exp2};
+
+// The code of a refusal.
+const REFUSED: u32 = 1;
 
 // One step of Horner's rule, the product of two 32-bit numbers cut off to its upper half.
 fn step(c: u32, p: u32, f: u32) -> u32
@@ -103,13 +107,61 @@ fn in_range(x: f32) -> bool
     b <= 0xc2fc_0000
 }
 
-// The digits of a power rounded, and put together with the whole part: a carry of them into the exponent is the addition.
+// The digits q of a power, without the 1 before the point, rounded, and put together with the whole part e: a carry of them into the exponent is the addition.
+fn put_together(e: u32, q: u32) -> u32
+    requires { ⌜ e ≤ 253 ⌝ }
+    ensures { λ r. ⌜ r ≡ e * 8388608 + roundedDigits (q + 2 ^ 32) ⌝ }
+{
+    (e + 1) * 8388608 + (q / 256 + 1) / 2
+}
+
+// The power of what was cut off, as a bit pattern.
 fn rounded(c: u64) -> u32
     requires { ⌜ c ≤ 253 * 2 ^ 32 ⌝ }
     ensures { λ r. ⌜ r ≡ roundedPower c ⌝ }
 {
+    put_together((c / 4294967296) as u32, raise((c % 4294967296) as u32))
+}
+
+// Whether the digits q do not tell the nearest float: the middle of two floats is 8 units above them at most, or 2 below.
+fn is_open(q: u32) -> bool
+    ensures { λ r. ⌜ r ≡ isOpen (q + 2 ^ 32) ⌝ }
+{
+    (q % 512 + 264) % 512 <= 10
+}
+
+// The fraction of x as a whole number of 2^-64. Digits before the point run over 64 bits; of a negative x it is what is missing to a whole number.
+fn fraction(x: f32) -> u64
+    requires { ⌜ Accepts x × (2 ^ 124 ≤ mag x) ⌝ }
+    ensures { λ r. ⌜ r ≡ fractionOf x ⌝ }
+{
+    let b = f32::to_bits(x);
+    let s = ((b % 8388608 + 8388608) as u64) << (b % 2147483648 / 8388608 - 86);
+    if b < 2147483648 {
+        return s;
+    }
+    std::num::wrapping_sub_u64(0, s)
+}
+
+// The digits by the second evaluation, rounded, and put together with the whole part e: in 2 of 100 calls.
+fn settled(x: f32, e: u32) -> u32
+    requires { ⌜ Accepts x × (2 ^ 124 ≤ mag x) × (e ≤ 253) ⌝ }
+    ensures { λ r. ⌜ r ≡ e * 8388608 + fineDigits (fractionOf x) ⌝ }
+{
+    put_together(e, (fine::fine(fraction(x)) / 4294967296) as u32)
+}
+
+// The nearest float's pattern, where c is what x was cut to: the digits rounded, unless they are open.
+fn nearest(x: f32, c: u64) -> u32
+    requires { ⌜ Accepts x × (c ≡ cutOf x) ⌝ }
+    ensures { λ r. ⌜ r ≡ exp2Bits x ⌝ }
+{
     let q = raise((c % 4294967296) as u32);
-    ((c / 4294967296) as u32 + 1) * 8388608 + (q / 256 + 1) / 2
+    let e = (c / 4294967296) as u32;
+    if is_open(q) {
+        return settled(x, e);
+    }
+    put_together(e, q)
 }
 
 // 2 to the power x; code 1 and nothing written where x is a NaN, below -126 or above 127. From 2^-9 to 124 in size, where nearly all arguments
@@ -118,15 +170,17 @@ pub fn exp2(x: f32, out: &mut u32) -> u32
     ensures { λ code. ⌜ Ends floatBits (Exp2 x) code (now (out .entry)) (now (out .exit)) ⌝ }
 {
     if x != x {
-        return 1;
+        return REFUSED;
     }
-    if std::num::wrapping_sub_u32(f32::to_bits(x) % 2147483648, 0x3b00_0000) <= 0x07f8_0000 {
-        *out = rounded(whole_cut(x));
-        return 0;
-    }
-    if in_range(x) {
-        *out = rounded(cut_off(x));
-        return 0;
-    }
-    1
+    let c = if std::num::wrapping_sub_u32(f32::to_bits(x) % 2147483648, 0x3b00_0000)
+        <= 0x07f8_0000
+    {
+        whole_cut(x)
+    } else if in_range(x) {
+        cut_off(x)
+    } else {
+        return REFUSED;
+    };
+    *out = nearest(x, c);
+    0
 }

@@ -1,9 +1,9 @@
 -- `powers::exp2` meets its promise: the argument is taken, or refused. Assumes nothing.
 use borrow.Author.Needs.{needs}
-use mathlib.Core.Path.{_≡_, sym, subst, ap, _∙_}
-use mathlib.Core.Logic.{inr}
+use mathlib.Core.Path.{_≡_, sym, subst, _∙_}
+use mathlib.Core.Logic.{inr, ⊎-elim}
 use Prim.Native.Nat.{ℕ, _+_, _*_, _%_, _^_, _≤_}
-use native.Mathlib.Nat.{le-trans, le-of-eq}
+use native.Mathlib.Nat.{le-trans}
 use native.Mathlib.Omega.{arith}
 use lib.Dec.{T, lit≤}
 use lib.Ieee.{Float, binary32, fits, toBits}
@@ -12,8 +12,7 @@ use Rattle.units.proofs.Signs.{size-sum}
 use Rattle.units.proofs.Patterns.{Shape, within}
 use Rattle.fixed.proofs.Take.{equal-to-itself, no-number}
 use Rattle.powers.specs.Exp2.{Accepts}
-use Rattle.powers.specs.Value.{roundedPower}
-use Rattle.powers.proofs.Reduction.{cut-top}
+use Rattle.powers.specs.Value.{cutOf}
 use Rattle.powers.proofs.Promise.{success, refusal}
 use Rattle.powers.proofs.exp2.Statement.{statement}
 use Rattle.powers.proofs.exp2.Tie as tie
@@ -50,28 +49,25 @@ whole-cut-requires c κs =
     let (l, u) = low (toBits binary32 x) _ (c .before .wrapping-sub-u32 .ensures) (c .if2 .taken) in
     (common x (subst T (sym (c .before .before .before .good .0 .1)) tt) u, l)
 
-rounded-requires : tie.Need-rounded-requires
-rounded-requires c κs = le-trans (le-of-eq (c .whole-cut .ensures)) (cut-top _ (whole-cut-requires (c .before) tt .0))
-
-returns-2 : tie.Need-returns-2
-returns-2 c = success _ (whole-cut-requires (c .before .before) tt .0) (c .rounded .ensures ∙ ap roundedPower (c .before .whole-cut .ensures))
-
 in-range-requires : tie.Need-in-range-requires
 in-range-requires c κs = search needs
 
 cut-off-requires : tie.Need-cut-off-requires
 cut-off-requires c κs = c .before .in-range .ensures .if-true (c .if3 .taken)
 
-rounded-requires-2 : tie.Need-rounded-requires-2
-rounded-requires-2 c κs = le-trans (le-of-eq (c .cut-off .ensures)) (cut-top _ (cut-off-requires (c .before) _))
+returns-2 : tie.Need-returns-2
+returns-2 c = refusal _ (c .before .in-range .ensures .if-false (c .if3 .left))
+
+-- where both ways meet: x is accepted, and c is what it was cut to
+met : (c : tie.Joined2) → Accepts (c .before .before .before .args .x) × (c .if2 .c ≡ cutOf (c .before .before .before .args .x))
+met c =
+    ⊎-elim (λ w. (whole-cut-requires (record { before = c .before; if2 = w .0 }) tt .0, w .2 ∙ w .1 .ensures)) (λ w. (w .1 .ensures .if-true (w .2 .taken), w .4 ∙ w .3 .ensures)) (c .if2 .came)
+
+nearest-requires : tie.Need-nearest-requires
+nearest-requires c κs = met c
 
 returns-3 : tie.Need-returns-3
-returns-3 c = success _ (cut-off-requires (c .before .before) _) (c .rounded2 .ensures ∙ ap roundedPower (c .before .cut-off .ensures))
-
-returns-4 : tie.Need-returns-4
-returns-4 c = refusal _ (c .before .in-range .ensures .if-false (c .if3 .left))
+returns-3 c = success _ (met (c .before) .0) (c .nearest .ensures)
 
 pub exp2-spec : {M : Type 1} → statement M
-exp2-spec =
-    tie.close
-    (tie.spec returns float-to-bits-wrapping-sub-u32 wrapping-sub-u32-requires whole-cut-requires rounded-requires returns-2 in-range-requires cut-off-requires rounded-requires-2 returns-3 returns-4)
+exp2-spec = tie.close (tie.spec returns float-to-bits-wrapping-sub-u32 wrapping-sub-u32-requires whole-cut-requires in-range-requires cut-off-requires returns-2 nearest-requires returns-3)
