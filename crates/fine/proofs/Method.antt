@@ -16,7 +16,7 @@ use Rattle.exact.proofs.Pieces.{end}
 use Rattle.exact.proofs.Near.{near-least, high-enough}
 use Rattle.fixed.specs.Horner.{horner}
 use Rattle.fixed.proofs.Horner.{quotients, horner-mono, horner-below, horner-above}
-use Rattle.fine.specs.Fine.{coefficients, fineOf}
+use Rattle.fine.specs.Value.{coefficients, fineOf}
 
 -- the unit of the fractions
 abbrev pub U : ℕ

@@ -1,1 +1,1 @@
-pub mod Fine
+pub mod Value

@@ -3,7 +3,7 @@
 
 ghost use mathlib.Core.Path.{_≡_};
 ghost use Prim.Native.Nat.{_+_, _*_, _/_, _^_, _<_};
-ghost use Rattle.fine.specs.Fine.{fineOf};
+ghost use Rattle.fine.specs.Value.{fineOf};
 
 // A step of Horner's rule of one word: the product's first word, after the point, cut off.
 fn short(c: u32, p: u32, t: u64) -> u32

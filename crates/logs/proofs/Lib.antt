@@ -3,6 +3,7 @@ pub mod Sixteenths
 pub mod Reduction
 pub mod Order
 pub mod Rounding
+pub mod Middles
 pub mod Relative
 pub mod Asked
 pub mod Logarithm

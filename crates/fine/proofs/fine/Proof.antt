@@ -9,7 +9,7 @@ use lib.ListN.{drop}
 use Rattle.fixed.specs.Horner.{horner}
 use Rattle.fixed.proofs.Horner.{horner-one, horner-step}
 use Rattle.fixed.proofs.Chains.{altogether, horner-most}
-use Rattle.fine.specs.Fine.{coefficients, fineOf}
+use Rattle.fine.specs.Value.{coefficients, fineOf}
 use Rattle.fine.proofs.Method.{U}
 use Rattle.fine.proofs.fine.Statement.{statement}
 use Rattle.fine.proofs.fine.Tie as tie
