@@ -4,6 +4,7 @@ pub mod Reduction
 pub mod Order
 pub mod Rounding
 pub mod Middles
+pub mod Told
 pub mod Relative
 pub mod Asked
 pub mod Logarithm

@@ -90,7 +90,7 @@ fn settled(b: u32, w: u64, u: u32, z: u32) -> u32
 
 // The 24 digits.
 fn digits(b: u32, w: u64, u: u32, z: u32) -> u32
-    requires { ⌜ isOpen u ≡ true → z ≤ 49 ⌝ }
+    requires { ⌜ (isOpen u ≡ true → z ≤ 49) ⌝ }
     ensures { λ r. ⌜ r ≡ log2Digits b w u z ⌝ }
 {
     if (u % 256 + 8) / 16 == 8 {
