@@ -5,6 +5,8 @@ pub mod Order
 pub mod Rounding
 pub mod Middles
 pub mod Told
+pub mod Decided
+pub mod Placed
 pub mod Relative
 pub mod Asked
 pub mod Logarithm
