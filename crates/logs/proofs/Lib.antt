@@ -7,6 +7,7 @@ pub mod Middles
 pub mod Told
 pub mod Decided
 pub mod Placed
+pub mod Kept
 pub mod Relative
 pub mod Asked
 pub mod Logarithm

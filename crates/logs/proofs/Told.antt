@@ -23,6 +23,12 @@ pub record Known (n d A : ℕ) : Type 0 where
   pub least : AtLeast n d ((2 ^ 33 - 15) * A) 0 (2 ^ 87)
   pub most : AtMost n d ((2 ^ 33 + 15) * A) 0 (2 ^ 87)
 
+-- the 24 digits S, 135 - z places up, are those of the float nearest to log2 (n / d)
+pub record Digits (n d S z : ℕ) : Type 0 where
+  pub least : 2 ^ 23 ≤ S
+  pub most : S ≤ 2 ^ 24
+  pub found : Found n d (S * 2 ^ (135 - z))
+
 -- ---- over plain numbers: R is A shifted up to 64 digits, G a quarter step, K the unit of both
 
 above : (A K R G M : ℕ) → A * K ≡ R * G → 0 < G → R < 2 ^ 64 → R + 15 * 2 ^ 31 ≤ M * 2 ^ 38 → (2 ^ 33 + 15) * A * (K * 2 ^ 16) + 0 * 2 ^ 87 < M * G * 2 ^ 87 + 0 * (K * 2 ^ 16)
@@ -113,16 +119,33 @@ module _ (n d A z : ℕ) (known : Known n d A) (p : Placed A z) where
       | inr h ↦ elim (le-or-lt 120 (u % 256)) [ inl k ↦ absurd (apart (omega arith)) | inr k ↦ omega (arith, first-digits) ]
     ]
 
-    -- S steps; so near to the least significand that it may be less, they are twice as many steps of half the size
-    pub shut-found : Found n d ((u / 128 + 1) / 2 * 2 ^ (135 - z))
-    unfolding S
+    -- S steps; so near to the least significand that the logarithm may be less, they are twice as many steps of half the size
+    shut-found : Found n d (S * 2 ^ (135 - z))
     shut-found = elim (le-or-lt (S * 2 ^ 40 + 15 * 2 ^ 31) R) [
-      | inl h ↦ record { S = S; g = 135 - z; same = refl; rounds = record { least = S-least; most = S-most; over = half-over (2 * S + 1) up; under = half-under (2 * S - 1) down; first = λ e. from-first S h } }
-      | inr h ↦ elim (le-or-lt S 8388608) [
-        | inl k ↦ record { S = 2 * S; g = g; same = halves S; rounds = record { least = omega (arith, S-least); most = omega arith; over = told-over (2 * (2 * S) + 1) (omega arith); under = told-under (2 * (2 * S) - 1) (omega (arith, S-least, first-digits)); first = λ e. absurd (omega (arith, S-least)) } }
-        | inr k ↦ record { S = S; g = 135 - z; same = refl; rounds = record { least = S-least; most = S-most; over = half-over (2 * S + 1) up; under = half-under (2 * S - 1) down; first = λ e. absurd (omega arith) } }
-      ]
+      | inl h ↦ wide (λ e. from-first S h)
+      | inr h ↦ elim (le-or-lt S 8388608) [ inl k ↦ fine h k | inr k ↦ wide (λ e. absurd (omega arith)) ]
     ]
+      where
+        wide : (S ≡ 2 ^ 23 → AtLeast n d (S * 2 ^ (135 - z)) 0 (2 ^ 149)) → Found n d (S * 2 ^ (135 - z))
+        wide f = record { S = S; g = 135 - z; same = refl; rounds = record { least = S-least; most = S-most; over = half-over (2 * S + 1) up; under = half-under (2 * S - 1) down; first = f } }
+
+        fine : R < S * 2 ^ 40 + 15 * 2 ^ 31 → S ≤ 8388608 → Found n d (S * 2 ^ (135 - z))
+        fine h k = record {
+          S = 2 * S;
+          g = g;
+          same = halves S;
+          rounds = record {
+            least = omega (arith, S-least);
+            most = omega arith;
+            over = told-over (2 * (2 * S) + 1) (omega arith);
+            under = told-under (2 * (2 * S) - 1) (omega (arith, S-least, first-digits));
+            first = λ e. absurd (omega (arith, S-least));
+          };
+        }
+
+    pub shut-digits : Digits n d ((u / 128 + 1) / 2) z
+    unfolding S
+    shut-digits = record { least = S-least; most = S-most; found = shut-found }
 
   -- ---- where one is: it is the middle above S steps
   module _ (open-u : isOpen u ≡ true) where
@@ -149,35 +172,28 @@ module _ (n d A z : ℕ) (known : Known n d A) (p : Placed A z) where
     pub middle-below : (2 * (u / 256) + 1) * 2 ^ 39 ≤ R + 2 ^ 35
     middle-below = omega (arith, near)
 
+    digits : (S : ℕ) → Rounds n d S (135 - z) → Digits n d S z
+    digits S r = record { least = r .least; most = r .most; found = record { S = S; g = 135 - z; same = refl; rounds = r } }
+
     -- the logarithm is below it
-    pub open-below : LessThan n d ((2 * (u / 256) + 1) * 2 ^ (135 - z)) 0 Q → Found n d (u / 256 * 2 ^ (135 - z))
-    open-below h = record {
-      S = u / 256;
-      g = 135 - z;
-      same = refl;
-      rounds = record {
-        least = omega (arith, first-digits);
-        most = omega (arith, p .high);
-        over = h;
-        under = half-under (2 * (u / 256) - 1) (omega (arith, near));
-        first = λ e. from-first (u / 256) (omega (arith, near));
-      };
-    }
+    pub open-below : LessThan n d ((2 * (u / 256) + 1) * 2 ^ (135 - z)) 0 Q → Digits n d (u / 256) z
+    open-below h = digits (u / 256) (record {
+      least = omega (arith, first-digits);
+      most = omega (arith, p .high);
+      over = h;
+      under = half-under (2 * (u / 256) - 1) (omega (arith, near));
+      first = λ e. from-first (u / 256) (omega (arith, near));
+    })
 
     -- or above it
-    pub open-above : MoreThan n d ((2 * (u / 256) + 1) * 2 ^ (135 - z)) 0 Q → Found n d ((u / 256 + 1) * 2 ^ (135 - z))
-    open-above h = record {
-      S = u / 256 + 1;
-      g = 135 - z;
-      same = refl;
-      rounds = record {
-        least = omega (arith, first-digits);
-        most = omega (arith, p .high);
-        over = half-over (2 * (u / 256 + 1) + 1) (omega (arith, near));
-        under = subst (λ (i : ℕ). MoreThan n d (i * 2 ^ (135 - z)) 0 Q) (odd (u / 256)) h;
-        first = λ e. absurd (omega (arith, first-digits));
-      };
-    }
+    pub open-above : MoreThan n d ((2 * (u / 256) + 1) * 2 ^ (135 - z)) 0 Q → Digits n d (u / 256 + 1) z
+    open-above h = digits (u / 256 + 1) (record {
+      least = omega (arith, first-digits);
+      most = omega (arith, p .high);
+      over = half-over (2 * (u / 256 + 1) + 1) (omega (arith, near));
+      under = subst (λ (i : ℕ). MoreThan n d (i * 2 ^ (135 - z)) 0 Q) (odd (u / 256)) h;
+      first = λ e. absurd (omega (arith, first-digits));
+    })
       where
         odd : (s : ℕ) → 2 * s + 1 ≡ 2 * (s + 1) - 1
         odd s = omega arith
