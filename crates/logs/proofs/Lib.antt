@@ -8,6 +8,7 @@ pub mod Told
 pub mod Decided
 pub mod Placed
 pub mod Kept
+pub mod Chosen
 pub mod Relative
 pub mod Asked
 pub mod Logarithm
