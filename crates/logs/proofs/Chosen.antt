@@ -149,7 +149,7 @@ module _ (b w X A z : ℕ) (p : Placed A z) (is : X * 2 ≡ (b % 8388608 + 83886
     settled-above : isOpen u ≡ true → Digits X (2 ^ 149) (settledDigits b w u z) z
     unfolding settledDigits fractionOf
     settled-above o =
-        let zs = few-zeros X (2 ^ 149) A z known p o in
+        let zs = few-zeros A z o in
         let (v, h) = placed.placed-above c e (u / 256) R (w * 2 ^ z) from-e before-next (middle-above X (2 ^ 149) A z known p o) (middle-below X (2 ^ 149) A z known p o) whole-above in
         let f : M * 2 ^ (49 - z) % 2 ^ 64 ≡ v * 2 ^ (49 - z) = placed.fraction-above M c e v (2 ^ (49 - z)) (2 ^ 64) (pieces zs) (pow-pos (49 - z)) h (omega (arith, down)) in
         let off = kept-above z (u / 256) e v (omega (arith, p .low)) (omega (arith, p .high)) h small-above in
@@ -183,7 +183,7 @@ module _ (b w X A z : ℕ) (p : Placed A z) (is : X * 2 ≡ (b % 8388608 + 83886
     settled-below : isOpen u ≡ true → Digits (2 ^ 149) X (settledDigits b w u z) z
     unfolding settledDigits fractionOf
     settled-below o =
-        let zs = few-zeros (2 ^ 149) X A z known p o in
+        let zs = few-zeros A z o in
         let (v, h) = placed.placed-below c e (u / 256) R (w * 2 ^ z) from-e before-next (middle-above (2 ^ 149) X A z known p o) (middle-below (2 ^ 149) X A z known p o) whole-below in
         let f : (2 ^ 64 - M * 2 ^ (49 - z) % 2 ^ 64) % 2 ^ 64 ≡ v * 2 ^ (49 - z) = placed.fraction-below M c e v (2 ^ (49 - z)) (2 ^ 64) (pieces zs) (pow-pos (49 - z)) h (omega (arith, low)) in
         let off = kept-below z (u / 256) e v (omega (arith, p .low)) (omega (arith, p .high)) h small-below in

@@ -29,6 +29,20 @@ pub record Digits (n d S z : ℕ) : Type 0 where
   pub most : S ≤ 2 ^ 24
   pub found : Found n d (S * 2 ^ (135 - z))
 
+-- ---- digits that are open are not zeros alone: no more than 39 zeros stand before them
+pub few-zeros : (A z : ℕ) → isOpen (A * 2 ^ z / 4294967296) ≡ true → z ≤ 39
+unfolding isOpen
+few-zeros A z o = elim (le-or-lt z 39) [
+  | inl h ↦ h
+  | inr h ↦
+      let e : z ≡ 40 + (z - 40) = omega arith in
+      let f : A * 2 ^ z / 4294967296 ≡ A * 2 ^ (z - 40) * 256 = ap (λ (i : ℕ). A * 2 ^ i / 4294967296) e ∙ rw (pow-add 2 40 (z - 40)) (cut A (2 ^ (z - 40))) in
+      absurd (omega (arith, eqb-true ((A * 2 ^ z / 4294967296 % 256 + 8) / 16) 8 o))
+]
+  where
+    cut : (a U : ℕ) → a * (2 ^ 40 * U) / 4294967296 ≡ a * U * 256
+    cut a U = omega arith
+
 -- ---- over plain numbers: R is A shifted up to 64 digits, G a quarter step, K the unit of both
 
 above : (A K R G M : ℕ) → A * K ≡ R * G → 0 < G → R < 2 ^ 64 → R + 15 * 2 ^ 31 ≤ M * 2 ^ 38 → (2 ^ 33 + 15) * A * (K * 2 ^ 16) + 0 * 2 ^ 87 < M * G * 2 ^ 87 + 0 * (K * 2 ^ 16)
@@ -152,19 +166,6 @@ module _ (n d A z : ℕ) (known : Known n d A) (p : Placed A z) where
     near : (u % 256 + 8) / 16 ≡ 8
     unfolding isOpen
     near = eqb-true ((u % 256 + 8) / 16) 8 open-u
-
-    -- it is so near that the digits z zeros before them are no more than 40
-    pub few-zeros : z ≤ 39
-    few-zeros = elim (le-or-lt z 39) [
-      | inl h ↦ h
-      | inr h ↦
-          let e : z ≡ 40 + (z - 40) = omega arith in
-          let f : u ≡ A * 2 ^ (z - 40) * 256 = ap (λ (i : ℕ). A * 2 ^ i / 4294967296) e ∙ rw (pow-add 2 40 (z - 40)) (cut A (2 ^ (z - 40))) in
-          absurd (omega (arith, near))
-    ]
-      where
-        cut : (a U : ℕ) → a * (2 ^ 40 * U) / 4294967296 ≡ a * U * 256
-        cut a U = omega arith
 
     pub middle-above : R ≤ (2 * (u / 256) + 1) * 2 ^ 39 + 2 ^ 35
     middle-above = omega (arith, near)

@@ -63,17 +63,14 @@ isAbove b t = ltb (fineOf t / 2199023255552) (b % 8388608)
 
 -- the digits, where the first 32 leave them open
 unfoldable pub settledDigits : ℕ → ℕ → ℕ → ℕ → ℕ
-unfolding fractionOf isAbove
 settledDigits b w u z = u / 256 + cond (ltb w atOne) (cond (isAbove b (fractionOf w u z)) 0 1) (cond (isAbove b (fractionOf w u z)) 1 0)
 
 -- the 24 digits
 unfoldable pub log2Digits : ℕ → ℕ → ℕ → ℕ → ℕ
-unfolding isOpen settledDigits
 log2Digits b w u z = cond (isOpen u) (settledDigits b w u z) ((u / 128 + 1) / 2)
 
 -- the bit pattern of the float nearest to a logarithm w in fixed point, of the float with the pattern b: a step of 2 ^ -54 is 2 ^ (135 - 40) units
 unfoldable pub roundedBits : ℕ → ℕ → ℕ
-unfolding signOf firstWord log2Digits
 roundedBits b w =
     let n = distanceOf w in
     let z = leadingZeros 64 n in

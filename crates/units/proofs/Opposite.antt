@@ -1,11 +1,13 @@
 -- The opposite of a float: its positive and its negative side change places. Assumes nothing.
-use mathlib.Core.Path.{_≡_, refl}
-use mathlib.Core.Bool.{true, false}
+use mathlib.Core.Path.{_≡_, refl, sym}
+use mathlib.Core.Bool.{true, false, true≢false}
+use Prim.Native.Nat.{ℕ}
 use lib.Dec.{T}
 use lib.Ieee.{Float, nan, inf, fin, neg, binary32}
 use lib.Ieee.Fits.{neg-fits}
 use lib.Ieee.Scale.{finite}
 use Rattle.units.specs.Units.{mag, negative, P, N, Number}
+use Rattle.units.proofs.Bits.{Is}
 
 -- it is a number too
 pub opposite : (z : Float) → Number z → Number (neg z)
@@ -28,3 +30,11 @@ opposite-minus nan h = absurd (h .is-finite)
 opposite-minus (inf s) h = absurd (h .is-finite)
 opposite-minus (fin true m e) h = refl
 opposite-minus (fin false m e) h = refl
+
+-- of a float below zero it is the one above zero, of as many units
+pub opposite-is : (z : Float) {u : ℕ} → Is z true u → Is (neg z) false u
+unfolding neg mag negative
+opposite-is nan h = absurd (h .number .is-finite)
+opposite-is (inf s) h = absurd (h .number .is-finite)
+opposite-is (fin true m e) h = record { number = opposite (fin true m e) (h .number); sign = refl; units = h .units }
+opposite-is (fin false m e) h = absurd (true≢false (sym (h .sign)))
