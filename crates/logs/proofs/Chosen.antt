@@ -15,9 +15,9 @@ use Rattle.gaps.specs.Apart.{OffFloats}
 use Rattle.fine.specs.Value.{fineOf}
 use Rattle.fine.proofs.Method.{U}
 use Rattle.fixed.proofs.Rounding.{Placed}
-use Rattle.logs.specs.Value.{atOne, isOpen, fractionOf, isAbove, settledDigits, log2Digits}
+use Rattle.logs.specs.Value.{atOne, widthOf, isOpen, fractionOf, isAbove, settledDigits, log2Digits}
 use Rattle.logs.proofs.Middles.{Q}
-use Rattle.logs.proofs.Told.{Known, Digits, shut-digits, few-zeros, middle-above, middle-below, open-below, open-above}
+use Rattle.logs.proofs.Told.{Known, Digits, width-most, shut-digits, few-zeros, middle-above, middle-below, open-below, open-above}
 use Rattle.logs.proofs.Placed as placed
 use Rattle.logs.proofs.Decided.{decided-above, decided-below}
 use Rattle.logs.proofs.Kept.{halfOf, kept-above, kept-below}
@@ -136,7 +136,7 @@ module _ (b w X A z : ℕ) (p : Placed A z) (is : X * 2 ≡ (b % 8388608 + 83886
     deep h = decided-below X (b % 8388608 + 8388608) e v (2 * c) t is (omega arith) wide small same off (told-below (fineOf t) (b % 8388608) (ltb-false (fineOf t / 2199023255552) (b % 8388608) h))
 
   -- ---- above log2 1
-  module _ (place : w ≡ atOne + A) (some : 0 < A) (known : Known X (2 ^ 149) A) where
+  module _ (place : w ≡ atOne + A) (some : 0 < A) (known : Known X (2 ^ 149) A z (widthOf z)) where
     whole-above : w * 2 ^ z ≡ 127 * (c * 2 ^ 40) + R
     whole-above = ap (λ (i : ℕ). i * 2 ^ z) place ∙ add-mul atOne A (2 ^ z) ∙ ap (λ (i : ℕ). i + R) (times 127)
 
@@ -146,31 +146,31 @@ module _ (b w X A z : ℕ) (p : Placed A z) (is : X * 2 ≡ (b % 8388608 + 83886
         let k : e ≡ 127 = omega (arith, down) in
         (few A z p 32 31 refl (subst (λ (i : ℕ). 2 ^ 31 ≤ i) (let l : w - atOne ≡ A = omega arith in l) (let l = up (omega arith) in omega arith)), k)
 
-    settled-above : isOpen u ≡ true → Digits X (2 ^ 149) (settledDigits b w u z) z
+    settled-above : isOpen u (widthOf z) ≡ true → Digits X (2 ^ 149) (settledDigits b w u z) z
     unfolding settledDigits fractionOf
     settled-above o =
-        let zs = few-zeros A z o in
-        let (v, h) = placed.placed-above c e (u / 256) R (w * 2 ^ z) from-e before-next (middle-above X (2 ^ 149) A z known p o) (middle-below X (2 ^ 149) A z known p o) whole-above in
+        let zs = few-zeros A z (widthOf z) (width-most z) o in
+        let (v, h) = placed.placed-above c e (u / 256) R (w * 2 ^ z) from-e before-next (middle-above X (2 ^ 149) A z (widthOf z) (width-most z) known p o) (middle-below X (2 ^ 149) A z (widthOf z) (width-most z) known p o) whole-above in
         let f : M * 2 ^ (49 - z) % 2 ^ 64 ≡ v * 2 ^ (49 - z) = placed.fraction-above M c e v (2 ^ (49 - z)) (2 ^ 64) (pieces zs) (pow-pos (49 - z)) h (omega (arith, down)) in
         let off = kept-above z (u / 256) e v (omega (arith, p .low)) (omega (arith, p .high)) h small-above in
         rw (le-ltb w atOne (omega arith), f) (go v (h .less) zs off (h .whole) o (isAbove b (v * 2 ^ (49 - z))) refl)
       where
-        go : (v : ℕ) (less : v < 2 * c) (zs : z ≤ 39) (off : OffFloats v (2 * c)) → 127 * (2 * c) + M ≡ v + e * (2 * c) → isOpen u ≡ true → (k : Bool) → isAbove b (v * 2 ^ (49 - z)) ≡ k → Digits X (2 ^ 149) (u / 256 + cond k 1 0) z
-        go v less zs off h o true k = open-above X (2 ^ 149) A z known p o (more-smaller (lit< tt) (exponent-above M G (2 * c) (v + e * (2 * c)) Q (unit zs) h .0) (high v less zs off k))
+        go : (v : ℕ) (less : v < 2 * c) (zs : z ≤ 39) (off : OffFloats v (2 * c)) → 127 * (2 * c) + M ≡ v + e * (2 * c) → isOpen u (widthOf z) ≡ true → (k : Bool) → isAbove b (v * 2 ^ (49 - z)) ≡ k → Digits X (2 ^ 149) (u / 256 + cond k 1 0) z
+        go v less zs off h o true k = open-above X (2 ^ 149) A z (widthOf z) (width-most z) known p o (more-smaller (lit< tt) (exponent-above M G (2 * c) (v + e * (2 * c)) Q (unit zs) h .0) (high v less zs off k))
         go v less zs off h o false k =
             subst (λ (i : ℕ). Digits X (2 ^ 149) i z) (sym (add-zero (u / 256)))
-            (open-below X (2 ^ 149) A z known p o (less-larger (lit< tt) (exponent-above M G (2 * c) (v + e * (2 * c)) Q (unit zs) h .1) (deep v less zs off k)))
+            (open-below X (2 ^ 149) A z (widthOf z) (width-most z) known p o (less-larger (lit< tt) (exponent-above M G (2 * c) (v + e * (2 * c)) Q (unit zs) h .1) (deep v less zs off k)))
 
     pub chosen-above : Digits X (2 ^ 149) (log2Digits b w u z) z
     unfolding log2Digits
-    chosen-above = go (isOpen u) refl
+    chosen-above = go (isOpen u (widthOf z)) refl
       where
-        go : (o : Bool) → isOpen u ≡ o → Digits X (2 ^ 149) (cond o (settledDigits b w u z) ((u / 128 + 1) / 2)) z
+        go : (o : Bool) → isOpen u (widthOf z) ≡ o → Digits X (2 ^ 149) (cond o (settledDigits b w u z) ((u / 128 + 1) / 2)) z
         go true o = settled-above o
-        go false o = shut-digits X (2 ^ 149) A z known p o
+        go false o = shut-digits X (2 ^ 149) A z (widthOf z) (width-most z) known p o
 
   -- ---- below it
-  module _ (place : w + A ≡ atOne) (some : 0 < A) (Xpos : 0 < X) (known : Known (2 ^ 149) X A) where
+  module _ (place : w + A ≡ atOne) (some : 0 < A) (Xpos : 0 < X) (known : Known (2 ^ 149) X A z (widthOf z)) where
     whole-below : w * 2 ^ z + R ≡ 127 * (c * 2 ^ 40)
     whole-below = sym (add-mul w A (2 ^ z)) ∙ ap (λ (i : ℕ). i * 2 ^ z) place ∙ times 127
 
@@ -180,26 +180,26 @@ module _ (b w X A z : ℕ) (p : Placed A z) (is : X * 2 ≡ (b % 8388608 + 83886
         let k : e ≡ 126 = omega (arith, down, low) in
         (few A z p 33 30 refl (omega (arith, down)), k)
 
-    settled-below : isOpen u ≡ true → Digits (2 ^ 149) X (settledDigits b w u z) z
+    settled-below : isOpen u (widthOf z) ≡ true → Digits (2 ^ 149) X (settledDigits b w u z) z
     unfolding settledDigits fractionOf
     settled-below o =
-        let zs = few-zeros A z o in
-        let (v, h) = placed.placed-below c e (u / 256) R (w * 2 ^ z) from-e before-next (middle-above (2 ^ 149) X A z known p o) (middle-below (2 ^ 149) X A z known p o) whole-below in
+        let zs = few-zeros A z (widthOf z) (width-most z) o in
+        let (v, h) = placed.placed-below c e (u / 256) R (w * 2 ^ z) from-e before-next (middle-above (2 ^ 149) X A z (widthOf z) (width-most z) known p o) (middle-below (2 ^ 149) X A z (widthOf z) (width-most z) known p o) whole-below in
         let f : (2 ^ 64 - M * 2 ^ (49 - z) % 2 ^ 64) % 2 ^ 64 ≡ v * 2 ^ (49 - z) = placed.fraction-below M c e v (2 ^ (49 - z)) (2 ^ 64) (pieces zs) (pow-pos (49 - z)) h (omega (arith, low)) in
         let off = kept-below z (u / 256) e v (omega (arith, p .low)) (omega (arith, p .high)) h small-below in
         rw (lt-ltb w atOne (omega arith), f) (go v (h .less) zs off (h .whole) o (isAbove b (v * 2 ^ (49 - z))) refl)
       where
-        go : (v : ℕ) (less : v < 2 * c) (zs : z ≤ 39) (off : OffFloats v (2 * c)) → 127 * (2 * c) ≡ v + e * (2 * c) + M → isOpen u ≡ true → (k : Bool) → isAbove b (v * 2 ^ (49 - z)) ≡ k → Digits (2 ^ 149) X (u / 256 + cond k 0 1) z
+        go : (v : ℕ) (less : v < 2 * c) (zs : z ≤ 39) (off : OffFloats v (2 * c)) → 127 * (2 * c) ≡ v + e * (2 * c) + M → isOpen u (widthOf z) ≡ true → (k : Bool) → isAbove b (v * 2 ^ (49 - z)) ≡ k → Digits (2 ^ 149) X (u / 256 + cond k 0 1) z
         go v less zs off h o true k =
             subst (λ (i : ℕ). Digits (2 ^ 149) X i z) (sym (add-zero (u / 256)))
-            (open-below (2 ^ 149) X A z known p o (less-larger (lit< tt) (exponent-below M G (2 * c) (v + e * (2 * c)) Q (unit zs) h .0) (less-mirrored (high v less zs off k))))
+            (open-below (2 ^ 149) X A z (widthOf z) (width-most z) known p o (less-larger (lit< tt) (exponent-below M G (2 * c) (v + e * (2 * c)) Q (unit zs) h .0) (less-mirrored (high v less zs off k))))
         go v less zs off h o false k =
-            open-above (2 ^ 149) X A z known p o (more-smaller (lit< tt) (exponent-below M G (2 * c) (v + e * (2 * c)) Q (unit zs) h .1) (more-mirrored Xpos (deep v less zs off k)))
+            open-above (2 ^ 149) X A z (widthOf z) (width-most z) known p o (more-smaller (lit< tt) (exponent-below M G (2 * c) (v + e * (2 * c)) Q (unit zs) h .1) (more-mirrored Xpos (deep v less zs off k)))
 
     pub chosen-below : Digits (2 ^ 149) X (log2Digits b w u z) z
     unfolding log2Digits
-    chosen-below = go (isOpen u) refl
+    chosen-below = go (isOpen u (widthOf z)) refl
       where
-        go : (o : Bool) → isOpen u ≡ o → Digits (2 ^ 149) X (cond o (settledDigits b w u z) ((u / 128 + 1) / 2)) z
+        go : (o : Bool) → isOpen u (widthOf z) ≡ o → Digits (2 ^ 149) X (cond o (settledDigits b w u z) ((u / 128 + 1) / 2)) z
         go true o = settled-below o
-        go false o = shut-digits (2 ^ 149) X A z known p o
+        go false o = shut-digits (2 ^ 149) X A z (widthOf z) (width-most z) known p o

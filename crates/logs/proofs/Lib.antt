@@ -5,6 +5,7 @@ pub mod Order
 pub mod Rounding
 pub mod Middles
 pub mod Told
+pub mod Bounds
 pub mod Decided
 pub mod Placed
 pub mod Kept

@@ -16,19 +16,20 @@ use Rattle.units.proofs.Opposite.{opposite-is}
 use Rattle.units.proofs.Bits.{Is, put-positive}
 use Rattle.units.proofs.Answers.{given, declined, written, untouched}
 use Rattle.exact.specs.Power.{AtMost, AtLeast, MoreThan}
-use Rattle.exact.proofs.Power.{at-most, most-of-larger, least-of-smaller}
+use Rattle.exact.proofs.Power.{at-most, at-least, most-of-larger, least-of-smaller}
 use Rattle.exact.proofs.Strict.{not-both}
 use Rattle.exact.proofs.Exponents.{less-of-larger, more-of-smaller, between}
-use Rattle.fixed.proofs.Rounding.{placed}
+use Rattle.fixed.proofs.Rounding.{Placed, placed}
 use Rattle.logs.specs.Log2.{Accepts, NearestLog, NearLog, log2ErrorNum, log2ErrorDen, Log2}
-use Rattle.logs.specs.Value.{fixedOf, atOne, stepsAbove, stepsBelow, distanceOf, firstWord, log2Digits, roundedBits, log2Of}
+use Rattle.logs.specs.Value.{fixedOf, atOne, stepsAbove, stepsBelow, distanceOf, firstWord, widthOf, log2Digits, roundedBits, log2Of}
 use Rattle.logs.specs.Fixed.{FixedLog2}
-use Rattle.logs.proofs.Reduction.{reading, whole-fixed, units-by, fraction-bounds}
+use Rattle.logs.proofs.Reduction.{least-over, most-over, reading, whole-fixed, units-by, fraction-bounds}
 use Rattle.logs.proofs.Order.{fixed-least, fixed-most, fixed-order}
 use Rattle.logs.proofs.Rounding.{zerosOf, digitsAt, none-bits, is-float, rounded-back, whole-shut, whole-units}
-use Rattle.logs.proofs.Relative.{InSteps, in-steps, mirrored, from-one, up-to-one, at-most-one}
+use Rattle.logs.proofs.Relative.{InSteps, over-one, in-steps, mirrored, from-one, up-to-one, at-most-one}
 use Rattle.logs.proofs.Middles.{Q, rounds-nearest, rounds-near, mirrored-nearest}
 use Rattle.logs.proofs.Told.{Known, Digits}
+use Rattle.logs.proofs.Bounds.{relative, absolute}
 use Rattle.logs.proofs.Chosen.{chosen-above, chosen-below}
 use Rattle.logs.proofs.Asked.{positive, negative}
 
@@ -52,12 +53,20 @@ above-one : {n d p q : ℕ} → MoreThan n d p 0 q → n ≤ d → ⊥
 above-one {q} m l = not-both (most-of-larger (m .root) (omega arith) (up-to-one (m .per) l)) m
 
 -- what is known of one side where nothing is on the other
-known : {n d A B K : ℕ} → InSteps n d A B → A ≡ K → B ≡ 0 → Known n d K
-known {n} {d} {A} s e z =
-    record {
-      least = subst (λ (i : ℕ). AtLeast n d ((2 ^ 33 - 15) * i) 0 (2 ^ 87)) e (subst (λ (i : ℕ). AtLeast n d ((2 ^ 33 - 15) * A) ((2 ^ 33 + 15) * i) (2 ^ 87)) z (s .least));
-      most = subst (λ (i : ℕ). AtMost n d ((2 ^ 33 + 15) * i) 0 (2 ^ 87)) e (subst (λ (i : ℕ). AtMost n d ((2 ^ 33 + 15) * A) ((2 ^ 33 - 15) * i) (2 ^ 87)) z (s .most));
-    }
+sided : {n d A B K : ℕ} → InSteps n d A B → A ≡ K → B ≡ 0 → AtLeast n d ((2 ^ 33 - 15) * K) 0 (2 ^ 87) × AtMost n d ((2 ^ 33 + 15) * K) 0 (2 ^ 87)
+sided {n} {d} {A} s e z = (
+  subst (λ (i : ℕ). AtLeast n d ((2 ^ 33 - 15) * i) 0 (2 ^ 87)) e (subst (λ (i : ℕ). AtLeast n d ((2 ^ 33 - 15) * A) ((2 ^ 33 + 15) * i) (2 ^ 87)) z (s .least)),
+  subst (λ (i : ℕ). AtMost n d ((2 ^ 33 + 15) * i) 0 (2 ^ 87)) e (subst (λ (i : ℕ). AtMost n d ((2 ^ 33 + 15) * A) ((2 ^ 33 - 15) * i) (2 ^ 87)) z (s .most)),
+)
+
+-- of digits with less than 10 zeros before them by the absolute error, of others by the relative one
+known : {n d A z : ℕ} → Placed A z → AtLeast n d ((2 ^ 33 - 15) * A) 0 (2 ^ 87) × AtMost n d ((2 ^ 33 + 15) * A) 0 (2 ^ 87) → AtLeast n d (2 ^ 32 * A) (3 * 2 ^ 54) (2 ^ 86) × AtMost n d (2 ^ 32 * A + 3 * 2 ^ 54) 0 (2 ^ 86)
+    → Known n d A z (widthOf z)
+unfolding widthOf
+known {n} {d} {A} {z} p r s = elim (le-or-lt 10 z) [
+  | inl h ↦ rw (le-ltb z 10 h) (relative n d A z p (r .0) (r .1))
+  | inr h ↦ rw (lt-ltb z 10 h) (absolute n d A z p (omega arith) (s .0) (s .1))
+]
 
 -- ---- of an accepted x
 module _ (x : Float) (a : Accepts x) where
@@ -83,6 +92,15 @@ module _ (x : Float) (a : Accepts x) where
   in-fixed-point : InSteps (mag x) (2 ^ 149) (stepsAbove w) (stepsBelow w)
   in-fixed-point = in-steps (mag x) w (reading x a)
 
+  -- and the absolute error of either side
+  in-all-above : atOne ≤ w → AtLeast (mag x) (2 ^ 149) (2 ^ 32 * A) (3 * 2 ^ 54) (2 ^ 86) × AtMost (mag x) (2 ^ 149) (2 ^ 32 * A + 3 * 2 ^ 54) 0 (2 ^ 86)
+  in-all-above h = let r = over-one (mag x) w (reading x a) in (least-over (omega (arith, reading x a .small)) (r .0), most-over (omega (arith, reading x a .small)) (r .1))
+
+  in-all-below : w ≤ atOne → AtLeast (2 ^ 149) (mag x) (2 ^ 32 * A) (3 * 2 ^ 54) (2 ^ 86) × AtMost (2 ^ 149) (mag x) (2 ^ 32 * A + 3 * 2 ^ 54) 0 (2 ^ 86)
+  in-all-below h =
+      let r = over-one (mag x) w (reading x a) in
+      (least-over (omega (arith, reading x a .small)) (at-least (lt-of-lt-of-le (lit< tt) (a .normal)) (r .1)), most-over (omega (arith, reading x a .small)) (at-most (r .0)))
+
   bounds : (bits / 8388608 * 2 ^ 54 ≤ w) × (bits / 8388608 * 2 ^ 54 < w → bits / 8388608 * 2 ^ 54 + 2 ^ 31 ≤ w) × (w + 2 ^ 30 ≤ (bits / 8388608 + 1) * 2 ^ 54)
   unfolding fixedOf
   bounds = fraction-bounds bits
@@ -90,7 +108,7 @@ module _ (x : Float) (a : Accepts x) where
   -- the digits of a whole number of ones
   exact : (c : ℕ) → 0 < A → A ≡ c * 2 ^ 54 → digitsAt bits w * 2 ^ (135 - z) ≡ c * 2 ^ 149
   unfolding log2Digits
-  exact c pos e = rw (whole-shut A c pos short e) (whole-units A c pos short e)
+  exact c pos e = rw (whole-shut A c pos short e z) (whole-units A c pos short e)
 
   -- ---- above log2 1
   module _ (up : atOne < w) where
@@ -101,7 +119,7 @@ module _ (x : Float) (a : Accepts x) where
     unfolding firstWord
     digits-above =
         let (low, next, last) = bounds in
-        chosen-above bits w (mag x) A z (placed A pos (omega (arith, short))) (units-by x a) low next last (omega arith) pos (known in-fixed-point (omega arith) (omega arith))
+        chosen-above bits w (mag x) A z (placed A pos (omega (arith, short))) (units-by x a) low next last (omega arith) pos (known (placed A pos (omega (arith, short))) (sided in-fixed-point (omega arith) (omega arith)) (in-all-above (omega arith)))
 
     is-above : Is (log2Of x) false (digitsAt bits w * 2 ^ (135 - z))
     unfolding log2Of
@@ -135,7 +153,7 @@ module _ (x : Float) (a : Accepts x) where
     unfolding firstWord
     digits-below =
         let (low, next, last) = bounds in
-        chosen-below bits w (mag x) A z (placed A some (omega (arith, short))) (units-by x a) low next last (omega arith) some (lt-of-lt-of-le (lit< tt) (a .normal)) (known (mirrored in-fixed-point) (omega arith) (omega arith))
+        chosen-below bits w (mag x) A z (placed A some (omega (arith, short))) (units-by x a) low next last (omega arith) some (lt-of-lt-of-le (lit< tt) (a .normal)) (known (placed A some (omega (arith, short))) (sided (mirrored in-fixed-point) (omega arith) (omega arith)) (in-all-below (omega arith)))
 
     is-below : Is (log2Of x) true (digitsAt bits w * 2 ^ (135 - z))
     unfolding log2Of
@@ -163,11 +181,11 @@ module _ (x : Float) (a : Accepts x) where
 
   -- ---- at it, where x is 1
   module _ (at-one : w ≡ atOne) where
-    zero-known : Known (mag x) (2 ^ 149) 0
-    zero-known = known in-fixed-point (omega arith) (omega arith)
+    zero-known : AtLeast (mag x) (2 ^ 149) 0 0 (2 ^ 87) × AtMost (mag x) (2 ^ 149) 0 0 (2 ^ 87)
+    zero-known = sided {K = 0} in-fixed-point (omega arith) (omega arith)
 
     one : mag x ≡ 2 ^ 149
-    one = le-antisymm (at-most-one (zero-known .most)) (at-most-one (at-most (zero-known .least)))
+    one = le-antisymm (at-most-one (zero-known .1)) (at-most-one (at-most (zero-known .0)))
 
     none : log2Of x ≡ ofBits binary32 0
     unfolding log2Of

@@ -46,17 +46,24 @@ pub record InSteps (n d A B : ℕ) : Type 0 where
 pub mirrored : {n d A B : ℕ} → InSteps n d A B → InSteps d n B A
 mirrored s = record { least = at-least (least-pos (s .least)) (s .most); most = at-most (s .least) }
 
--- what was read from X / 2 ^ 22, above log2 1 or below it
+-- what was read from X / 2 ^ 22, of X / 2 ^ 149
+pub over-one : (X W : ℕ) (r : Read X W) → AtLeast X (2 ^ 149) (2 ^ 32 * W + 0 * 2 ^ 86) (5 * r .F + 127 * 2 ^ 86) (2 ^ 86) × AtMost X (2 ^ 149) (2 ^ 32 * W + 5 * r .F + 0 * 2 ^ 86) (0 + 127 * 2 ^ 86) (2 ^ 86)
+over-one X W r = (
+  least-of-more (lit< tt) (le-of-eq (ap (λ (i : ℕ). i * 2 ^ 149) (mul-one X))) (least-shift 0 127 (r .least)),
+  most-of-less (lit< tt) (le-of-eq (ap (λ (i : ℕ). i * 2 ^ 149) (sym (mul-one X)))) (most-shift 0 127 (r .most)),
+)
+
+-- so it is above log2 1 or below it
 pub in-steps : (X W : ℕ) → Read X W → InSteps X (2 ^ 149) (stepsAbove W) (stepsBelow W)
 in-steps X W r = record {
   least =
       least-over (sum-below W (r .F) near-one)
       (least-of-smaller (lit< tt) (le-of-eq (twice (2 ^ 32 * W + 0 * 2 ^ 86) (5 * r .F + 127 * 2 ^ 86) (2 ^ 86)))
-      (least-of-more (lit< tt) (le-of-eq (ap (λ (i : ℕ). i * 2 ^ 149) (mul-one X))) (least-shift 0 127 (r .least))));
+      (over-one X W r .0));
   most =
       most-over (sum-above W (r .F) near-one)
       (most-of-larger (lit< tt) (le-of-eq (sym (twice (2 ^ 32 * W + 5 * r .F + 0 * 2 ^ 86) (0 + 127 * 2 ^ 86) (2 ^ 86))))
-      (most-of-less (lit< tt) (le-of-eq (ap (λ (i : ℕ). i * 2 ^ 149) (sym (mul-one X)))) (most-shift 0 127 (r .most))));
+      (over-one X W r .1));
 }
   where
     near-one : 2 * r .F ≤ 3 * (stepsAbove W + stepsBelow W)

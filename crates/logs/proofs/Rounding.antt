@@ -14,7 +14,8 @@ use Rattle.units.proofs.Bits.{Is, signBit, put, no-nan}
 use Rattle.units.proofs.Patterns.{pattern-back}
 use Rattle.fixed.specs.Rounded.{Normal, digitsOf}
 use Rattle.fixed.proofs.Rounding as fixed
-use Rattle.logs.specs.Value.{atOne, signOf, distanceOf, firstWord, isOpen, isAbove, fractionOf, settledDigits, log2Digits, roundedBits}
+use Rattle.logs.proofs.Told.{width-most}
+use Rattle.logs.specs.Value.{atOne, signOf, distanceOf, firstWord, widthOf, isOpen, isAbove, fractionOf, settledDigits, log2Digits, roundedBits}
 
 -- ---- the sign's bit
 -- clear from log2 1 on
@@ -46,7 +47,7 @@ digitsAt b w = log2Digits b w (firstWord (distanceOf w)) (zerosOf w)
 -- no more than 24, or a carry
 pub digits-few : (b w u z : ℕ) → u < 4294967296 → log2Digits b w u z ≤ 2 ^ 24
 unfolding log2Digits settledDigits
-digits-few b w u z h = either (isOpen u) (u / 256 + cond (ltb w atOne) (cond (isAbove b (fractionOf w u z)) 0 1) (cond (isAbove b (fractionOf w u z)) 1 0)) ((u / 128 + 1) / 2) (one (ltb w atOne) (isAbove b (fractionOf w u z))) (omega arith)
+digits-few b w u z h = either (isOpen u (widthOf z)) (u / 256 + cond (ltb w atOne) (cond (isAbove b (fractionOf w u z)) 0 1) (cond (isAbove b (fractionOf w u z)) 1 0)) ((u / 128 + 1) / 2) (one (ltb w atOne) (isAbove b (fractionOf w u z))) (omega arith)
   where
     either : (o : Bool) (x y : ℕ) → x ≤ 2 ^ 24 → y ≤ 2 ^ 24 → cond o x y ≤ 2 ^ 24
     either true x y k l = k
@@ -97,12 +98,12 @@ module _ (b w : ℕ) where
 -- ---- a whole number of ones, c of them
 module _ (n c : ℕ) (pos : 0 < n) (few : n < 2 ^ 63) (e : n ≡ c * 2 ^ 54) where
   -- is told by its first digits
-  pub whole-shut : isOpen (firstWord n) ≡ false
+  pub whole-shut : (z : ℕ) → isOpen (firstWord n) (widthOf z) ≡ false
   unfolding isOpen firstWord
-  whole-shut = ne-eqb ((n * 2 ^ leadingZeros 64 n / 4294967296 % 256 + 8) / 16) 8 (none (2 ^ leadingZeros 64 n))
+  whole-shut z = le-ltb _ _ (none (2 ^ leadingZeros 64 n) (widthOf z) (width-most z))
     where
-      none : (Z : ℕ) → (n * Z / 4294967296 % 256 + 8) / 16 ≡ 8 → ⊥
-      none Z h = let k : n * Z / 4294967296 ≡ c * Z * 16384 * 256 = omega (arith, ap (λ (i : ℕ). i * Z) e) in omega arith
+      none : (Z h : ℕ) → h ≤ 8 → 2 * h ≤ (n * Z / 4294967296 % 256 + 128 + h) % 256
+      none Z h l = let k : n * Z / 4294967296 ≡ c * Z * 16384 * 256 = omega (arith, ap (λ (i : ℕ). i * Z) e) in omega arith
 
   -- and is exact
   pub whole-units : (firstWord n / 128 + 1) / 2 * 2 ^ (135 - leadingZeros 64 n) ≡ c * 2 ^ 149

@@ -49,9 +49,13 @@ distanceOf w = stepsAbove w + stepsBelow w
 unfoldable pub firstWord : ℕ → ℕ
 firstWord n = n * 2 ^ leadingZeros 64 n / 4294967296
 
--- whether the middle of two floats is so near to them, 8 of the last of these digits, that they do not tell on which side of it the logarithm is
-unfoldable pub isOpen : ℕ → Bool
-isOpen u = eqb ((u % 256 + 8) / 16) 8
+-- how many of the last of these digits the logarithm may be off, for digits with z zeros before them: from 1 on the error is an absolute one, below relative
+unfoldable pub widthOf : ℕ → ℕ
+widthOf z = cond (ltb z 10) 2 8
+
+-- whether the middle of two floats is so near to them, h of these digits, that they do not tell on which side of it the logarithm is
+unfoldable pub isOpen : ℕ → ℕ → Bool
+isOpen u h = ltb ((u % 256 + 128 + h) % 256) (2 * h)
 
 -- the fraction of that middle in units of 2 ^ -64, as log2 x has one: of a negative logarithm what the fraction of its size lacks to 1
 unfoldable pub fractionOf : ℕ → ℕ → ℕ → ℕ
@@ -67,7 +71,7 @@ settledDigits b w u z = u / 256 + cond (ltb w atOne) (cond (isAbove b (fractionO
 
 -- the 24 digits
 unfoldable pub log2Digits : ℕ → ℕ → ℕ → ℕ → ℕ
-log2Digits b w u z = cond (isOpen u) (settledDigits b w u z) ((u / 128 + 1) / 2)
+log2Digits b w u z = cond (isOpen u (widthOf z)) (settledDigits b w u z) ((u / 128 + 1) / 2)
 
 -- the bit pattern of the float nearest to a logarithm w in fixed point, of the float with the pattern b: a step of 2 ^ -54 is 2 ^ (135 - 40) units
 unfoldable pub roundedBits : ℕ → ℕ → ℕ

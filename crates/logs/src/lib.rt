@@ -8,7 +8,7 @@ ghost use Prim.Native.Nat.{_+_, _-_, _*_, _/_, _^_, _<_, _≤_};
 ghost use Rattle.units.specs.Answers.{Ends, floatBits};
 ghost use Rattle.units.specs.Tests.{Tells};
 ghost use Rattle.logs.specs.Log2.{Accepts, Log2};
-ghost use Rattle.logs.specs.Value.{slope, distanceOf, signOf, isOpen, fractionOf, settledDigits, log2Digits, roundedBits};
+ghost use Rattle.logs.specs.Value.{slope, distanceOf, signOf, widthOf, isOpen, fractionOf, settledDigits, log2Digits, roundedBits};
 ghost use Rattle.logs.specs.Fixed.{FixedLog2};
 
 // log2 1 in fixed point: 127 in steps of 2 ^ -54.
@@ -70,7 +70,7 @@ fn fraction(w: u64, u: u32, z: u32) -> u64
     y
 }
 
-// The digits where the first 32 leave them open: x against the power of that middle, in 6 of 100 calls.
+// The digits where the first 32 leave them open: x against the power of that middle, in 2 of 100 calls, and in 6 where the logarithm is below 1 in size.
 fn settled(b: u32, w: u64, u: u32, z: u32) -> u32
     requires { ⌜ z ≤ 49 ⌝ }
     ensures { λ r. ⌜ r ≡ settledDigits b w u z ⌝ }
@@ -88,12 +88,20 @@ fn settled(b: u32, w: u64, u: u32, z: u32) -> u32
     u / 256
 }
 
+// How near a middle has to be to the first 32 digits for them to leave the 24 open, in the last of them.
+fn width(z: u32) -> u32
+    ensures { λ r. ⌜ r ≡ widthOf z ⌝ }
+{
+    if z < 10 { 2 } else { 8 }
+}
+
 // The 24 digits.
 fn digits(b: u32, w: u64, u: u32, z: u32) -> u32
-    requires { ⌜ (isOpen u ≡ true → z ≤ 49) ⌝ }
+    requires { ⌜ (isOpen u (widthOf z) ≡ true → z ≤ 49) ⌝ }
     ensures { λ r. ⌜ r ≡ log2Digits b w u z ⌝ }
 {
-    if (u % 256 + 8) / 16 == 8 {
+    let h = width(z);
+    if (u % 256 + 128 + h) % 256 < 2 * h {
         return settled(b, w, u, z);
     }
     (u / 128 + 1) / 2

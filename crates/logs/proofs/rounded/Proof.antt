@@ -7,9 +7,9 @@ use native.Mathlib.Nat.{le-trans, lt-of-not-le, le-antisymm}
 use native.Mathlib.Omega.{arith}
 use lib.Count.{leadingZeros}
 use Rattle.fixed.proofs.Rounding.{Placed, placed}
-use Rattle.logs.specs.Value.{distanceOf, firstWord, isOpen, log2Digits, roundedBits, signOf}
+use Rattle.logs.specs.Value.{distanceOf, firstWord, widthOf, isOpen, log2Digits, roundedBits, signOf}
 use Rattle.logs.proofs.Rounding.{none-bits, some-bits, digits-few, first-fits, sign-few}
-use Rattle.logs.proofs.Told.{few-zeros}
+use Rattle.logs.proofs.Told.{width-most, few-zeros}
 use Rattle.logs.proofs.rounded.Statement.{statement}
 use Rattle.logs.proofs.rounded.Tie as tie
 
@@ -56,7 +56,7 @@ mul-result : tie.Need-mul-result
 mul-result c = search needs
 
 digits-requires : tie.Need-digits-requires
-digits-requires c κs = λ o. rw (zeros (c .before .before)) (le-trans (few-zeros (n (c .before .before)) (leadingZeros 64 (n (c .before .before))) (rw (← c .before .before .first-word .ensures .0) o)) (omega arith))
+digits-requires c κs = λ o. rw (zeros (c .before .before)) (le-trans (few-zeros (n (c .before .before)) (leadingZeros 64 (n (c .before .before))) (widthOf (c .before .before .first-word .result .e)) (width-most (c .before .before .first-word .result .e)) (rw (← c .before .before .first-word .ensures .0) o)) (omega arith))
 
 -- the digits are no more than 24, or a carry
 carry : (c : tie.After-digits) → c .digits .result ≤ 2 ^ 24
