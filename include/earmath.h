@@ -94,9 +94,9 @@ uint32_t ear_exp(float x, float *out);
  * The logarithm to base two.
  *
  * Accepts: every finite x >= 2^-126, the normal floats above zero.
- * Result:  within 33 / 2^29 (below 2^-23.95) of the real logarithm, relatively,
- *          also next to 1. Negative below 1, +0 at 1, positive above. Exact at
- *          powers of two.
+ * Result:  the float nearest to the real logarithm; no tie occurs. So it is
+ *          within 2^-24 of it, relatively, also next to 1. Negative below 1,
+ *          +0 at 1, positive above. Exact at powers of two.
  * Order:   never falls as x grows.
  * Refuses: NaN, both infinities, subnormals, both zeros and every x < 0 with
  *          EAR_OUT_OF_RANGE; *out stays as it was.

@@ -12,6 +12,7 @@ pub mod Tight
 pub mod Near
 pub mod Logarithm
 pub mod Ratio
+pub mod Exponents
 pub mod Series
 pub mod Binomial
 pub mod Addition

@@ -1,10 +1,10 @@
 -- Laws of `LessThan` and `MoreThan`, from those of `AtMost` and `AtLeast`. Assumes nothing.
 use Prim.Native.Nat.{ℕ, zero, suc, _*_, _^_, _≤_, _<_}
-use native.Mathlib.Nat.{mul-comm, mul-le-mul-right, mul-lt-mul-of-pos-right, lt-of-mul-lt-mul-right, lt-of-lt-of-le, lt-of-le-of-lt, le-of-lt, not-le-of-lt, pow-le-pow-left, pow-lt-pow-left, ne-of-gt, zero-mul}
+use native.Mathlib.Nat.{mul-comm, mul-le-mul-right, mul-lt-mul-of-pos-right, lt-of-mul-lt-mul-right, lt-of-lt-of-le, lt-of-le-of-lt, le-of-lt, not-le-of-lt, lt-of-not-le, pow-le-pow-left, pow-lt-pow-left, one-le-mul, ne-of-gt, zero-mul}
 use native.Mathlib.Omega.{arith}
 use lib.Pow.{pow-pos}
 use Rattle.exact.specs.Power.{AtMost, AtLeast, LessThan, MoreThan}
-use Rattle.exact.proofs.Power.{mul-pow, at-most}
+use Rattle.exact.proofs.Power.{mul-pow, least-pos, at-most}
 
 -- a fraction n' / d' < n / d is less than what n / d is at most
 pub less-of-less : {n d n' d' p m q : ℕ} → 0 < d' → n' * d < n * d' → AtMost n d p m q → LessThan n' d' p m q

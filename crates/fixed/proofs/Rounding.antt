@@ -176,7 +176,8 @@ module _ (n e : ℕ) where
     pub some : eqb n 0 ≡ false
     some = ne-eqb n 0 (λ h. omega arith)
 
-    some-units : unitsOf n e ≡ digitsOf n (leadingZeros 64 n) * 2 ^ (e - leadingZeros 64 n)
+    -- its units
+    pub some-units : unitsOf n e ≡ digitsOf n (leadingZeros 64 n) * 2 ^ (e - leadingZeros 64 n)
     unfolding unitsOf
     some-units = rw some
 

@@ -4,6 +4,7 @@ pub mod division;
 
 ghost use mathlib.Core.Path.{_≡_};
 ghost use Prim.Native.Nat.{_*_, _/_, _^_, _≤_, _<_};
+ghost use lib.Count.{leadingZeros};
 ghost use lib.Ieee.{binary32, toBits};
 ghost use Rattle.units.specs.Units.{Positive};
 ghost use Rattle.fixed.specs.Parts.{Apart};
@@ -52,6 +53,27 @@ pub fn apart(x: f32) -> Parts
             m: b % 8388608 + 8388608,
             e: b / 8388608 + 23,
         }
+    }
+}
+
+// The first 32 digits m of a number above zero, and how many zeros e of 64 stand before them.
+pub fn first_word(n: u64) -> Parts
+    requires { ⌜ 0 < n ⌝ }
+    ensures { λ r. ⌜ (r .m ≡ n * 2 ^ leadingZeros 64 n / 4294967296) × (r .e ≡ leadingZeros 64 n) ⌝ }
+{
+    let h = (n / 4294967296) as u32;
+    if 0 < h {
+        let z = u32::leading_zeros(h);
+        return Parts {
+            m: upper_word(n, z),
+            e: z,
+        };
+    }
+    let l = (n % 4294967296) as u32;
+    let z = u32::leading_zeros(l);
+    Parts {
+        m: l << z,
+        e: 32 + z,
     }
 }
 

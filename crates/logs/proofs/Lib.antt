@@ -3,6 +3,13 @@ pub mod Sixteenths
 pub mod Reduction
 pub mod Order
 pub mod Rounding
+pub mod Middles
+pub mod Told
+pub mod Bounds
+pub mod Decided
+pub mod Placed
+pub mod Kept
+pub mod Chosen
 pub mod Relative
 pub mod Asked
 pub mod Logarithm

@@ -1,11 +1,14 @@
 -- Reduction: the exponent of the nearer power of two, and the logarithm of what is left, are the logarithm of x in fixed point: w steps of 2 ^ -54 are log2 x + 127
 -- within 5 parts in 2 ^ 32 of the distance F between w and that exponent.
-use mathlib.Core.Path.{_≡_, sym, ap, _∙_}
+use mathlib.Core.Path.{_≡_, refl, sym, ap, _∙_}
+use mathlib.Core.Bool.{Bool, true, _&&_}
+use mathlib.Core.List.{List, [], _∷_}
 use mathlib.Core.Logic.{_⊎_, inl, inr}
-use Prim.Native.Nat.{ℕ, suc, _+_, _-_, _*_, _/_, _%_, _^_, _≤_, _<_}
-use native.Mathlib.Nat.{le-trans, le-of-eq, lt-of-lt-of-le, lt-of-le-of-lt, add-mul, mul-le-mul-right, pow-suc}
+use Prim.Native.Nat.{ℕ, zero, suc, zero-le, _+_, _-_, _*_, _/_, _%_, _^_, _≤_, _<_}
+use native.Mathlib.Nat.{le-trans, le-of-eq, le-of-suc-le-suc, eq-or-lt-of-le, zero-mul, lt-of-lt-of-le, lt-of-le-of-lt, add-mul, mul-le-mul-right, pow-suc}
 use native.Mathlib.Omega.{arith}
-use lib.Dec.{lit<}
+use lib.Dec.{T, leb, leb→le, lit<}
+use lib.Ieee.Fits.{and-l, and-r}
 use lib.Pow.{pow-add}
 use lib.Ieee.{Float, binary32, toBits}
 use Rattle.exact.specs.Power.{AtMost, AtLeast}
@@ -17,6 +20,8 @@ use Rattle.units.proofs.Size.{mag-lt}
 use Rattle.units.proofs.Bits.{pattern-normal}
 use Rattle.units.specs.Units.{Positive}
 use Rattle.fixed.specs.Parts.{Apart}
+use Rattle.fixed.specs.Horner.{horner}
+use Rattle.fixed.proofs.Horner.{horner-first}
 use Rattle.fixed.proofs.Take.{apart-high, unique}
 use Rattle.logs.specs.Rows.{row}
 use Rattle.logs.specs.Log2.{Accepts}
@@ -76,6 +81,37 @@ module _ (X m E W F : ℕ) (same : X * 2 ≡ m * 2 ^ E) (small : 5 * F ≤ 3 * 2
     where
       twice : m * 2 ^ suc E * 2 ^ 22 ≡ X * (2 ^ 24 * 2 ^ 0)
       twice = rw (pow-suc 2 E) (doubled X m (2 ^ E) same)
+
+-- ---- the first coefficients of the rows: at least 2 ^ 30 of 2 ^ -31, and those below the cut 2 ^ 31
+firstOf : List ℕ → ℕ
+firstOf [] = 0
+firstOf (c ∷ cs) = c
+
+first-least : (D : ℕ) (cs : List ℕ) (f : ℕ) → firstOf cs ≤ horner D cs f
+unfolding firstOf
+first-least D [] f = zero-le
+first-least D (c ∷ cs) f = horner-first D c cs f
+
+firsts : ℕ → ℕ → Bool
+unfolding firstOf
+firsts m zero = true
+firsts m (suc k) = leb m (firstOf (row k)) && firsts m k
+
+first-of : (m k : ℕ) → T (firsts m k) → (i : ℕ) → i < k → m ≤ firstOf (row i)
+unfolding firsts
+first-of m zero t i h = absurd (omega arith)
+first-of m (suc k) t i h = elim (eq-or-lt-of-le (le-of-suc-le-suc h)) [
+  | inl e ↦ rw e (leb→le m (firstOf (row k)) (and-l (leb m (firstOf (row k))) (firsts m k) t))
+  | inr l ↦ first-of m k (and-r (leb m (firstOf (row k))) (firsts m k) t) i l
+]
+
+first-large : (i : ℕ) → i < 16 → 2 ^ 30 ≤ firstOf (row i)
+unfolding firsts
+first-large = first-of (2 ^ 30) 16 tt
+
+first-low : (i : ℕ) → i < 7 → 2 ^ 31 ≤ firstOf (row i)
+unfolding firsts
+first-low = first-of (2 ^ 31) 7 tt
 
 -- ---- the pattern b of a float: its exponent field, its sixteenth and the digits after
 module _ (b : ℕ) where
@@ -141,12 +177,38 @@ module _ (b : ℕ) where
     | inr h ↦ omega (arith, product-above h)
   ]
 
-  -- the value lies in the octave of the exponent
-  pub octave : (b / 8388608 * 2 ^ 54 ≤ fixedBits b) × (fixedBits b ≤ suc (b / 8388608) * 2 ^ 54)
-  octave = elim (le-or-lt 7 i) [
-    | inl h ↦ let s = sixteenth-below h .small in let f = fixed-below h in (omega arith, omega arith)
-    | inr h ↦ let s = sixteenth-above h .small in let f = fixed-above h in (omega arith, omega arith)
+  -- it is at least the row's first coefficient
+  slope-least : firstOf (row i) ≤ slope b
+  unfolding slope
+  slope-least = first-least 4294967296 (row i) (v * 512)
+
+  -- the whole part of the logarithm in fixed point is the exponent; where there is a fraction, it and what it lacks to 1 are not the least
+  pub fraction-bounds : (b / 8388608 * 2 ^ 54 ≤ fixedBits b) × (b / 8388608 * 2 ^ 54 < fixedBits b → b / 8388608 * 2 ^ 54 + 2 ^ 31 ≤ fixedBits b) × (fixedBits b + 2 ^ 30 ≤ (b / 8388608 + 1) * 2 ^ 54)
+  fraction-bounds = elim (le-or-lt 7 i) [
+    | inl h ↦
+        let F = times-least below (slope b) (omega arith) in
+        let k = first-large i (omega arith) in
+        let f = fixed-below h in
+        let s = sixteenth-below h .small in
+        let l = slope-least in
+        (omega arith, λ g. omega arith, omega arith)
+    | inr h ↦
+        let k = first-low i h in
+        let f = fixed-above h in
+        let s = sixteenth-above h .small in
+        let l = slope-least in
+        (omega arith, λ g. omega (arith, times-least above (slope b) (some above (slope b) (omega arith))), omega arith)
   ]
+    where
+      times-least : (n p : ℕ) → 0 < n → p ≤ n * p
+      times-least n p pos = omega (arith, mul-le-mul-right p pos)
+
+      some : (n p : ℕ) → 0 < n * p → 0 < n
+      some n p h = elim (le-or-lt n 0) [ inl z ↦ let e : n ≡ 0 = omega arith in absurd (omega (arith, rw (e, zero-mul p) at h)) | inr l ↦ l ]
+
+  -- so the value lies in the octave of the exponent
+  pub octave : (b / 8388608 * 2 ^ 54 ≤ fixedBits b) × (fixedBits b ≤ suc (b / 8388608) * 2 ^ 54)
+  octave = let (low, _, high) = fraction-bounds in (low, omega arith)
 
   -- a number of X units with this pattern is read
   read-bits : (X : ℕ) → X * 2 ^ 24 ≡ (b % 8388608 + 8388608) * 2 ^ (b / 8388608 + 23) → b / 8388608 ≤ 254 → Read X (fixedBits b)
@@ -179,6 +241,10 @@ module _ (x : Float) (a : Accepts x) where
   -- below the infinity's
   pub bits-few : bits < 255 * 8388608
   bits-few = let h = parts .high in omega arith
+
+  -- its units by its pattern
+  pub units-by : mag x * 2 ≡ (bits % 8388608 + 8388608) * 2 ^ (bits / 8388608)
+  units-by = halved (mag x) (bits % 8388608 + 8388608) (2 ^ (bits / 8388608)) (2 ^ (bits / 8388608 + 23)) (bits % 8388608 + 8388608) (pow-add 2 (bits / 8388608) 23) refl (parts .same)
 
   -- the logarithm in fixed point, read
   pub reading : Read (mag x) (fixedOf x)

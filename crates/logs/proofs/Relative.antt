@@ -1,16 +1,14 @@
--- The relative error, of either sign: of a logarithm in fixed point at the distance A above log2 1 or B below it (one of the two is 0), and of the float that it is rounded to. Assumes nothing.
+-- The relative error, of either sign, of a logarithm in fixed point at the distance A above log2 1 or B below it, one of the two 0. Assumes nothing.
 use mathlib.Core.Path.{_≡_, sym, ap}
 use mathlib.Core.Logic.{_⊎_, inl, inr}
 use Prim.Native.Nat.{ℕ, _+_, _-_, _*_, _^_, _≤_, _<_}
-use native.Mathlib.Nat.{le-of-eq, add-le-add, mul-one}
+use native.Mathlib.Nat.{le-of-eq, mul-one}
 use native.Mathlib.Omega.{arith}
 use lib.Dec.{lit<, lit≤}
 use Rattle.exact.specs.Power.{AtMost, AtLeast}
 use Rattle.exact.proofs.Power.{at-most, at-least, least-pos, most-of-larger, least-of-smaller, most-of-less, least-of-more, through-power, most-shift, least-shift}
-use Rattle.exact.proofs.Ratio.{exponents}
 use Rattle.units.proofs.Naturals.{le-or-lt}
-use Rattle.logs.specs.Log2.{AroundLog, log2ErrorNum, log2ErrorDen}
-use Rattle.logs.specs.Value.{atOne, stepsAbove, stepsBelow}
+use Rattle.logs.specs.Value.{stepsAbove, stepsBelow}
 use Rattle.logs.proofs.Reduction.{Read, least-over, most-over}
 
 -- ---- fractions against 1, which is 2 ^ 0
@@ -43,54 +41,30 @@ module _ (w F : ℕ) (h : 2 * F ≤ 3 * (stepsAbove w + stepsBelow w)) where
 pub record InSteps (n d A B : ℕ) : Type 0 where
   pub least : AtLeast n d ((2 ^ 33 - 15) * A) ((2 ^ 33 + 15) * B) (2 ^ 87)
   pub most : AtMost n d ((2 ^ 33 + 15) * A) ((2 ^ 33 - 15) * B) (2 ^ 87)
-  pub one-sided : (A ≡ 0) ⊎ (B ≡ 0)
 
 -- so is that of the reciprocal
 pub mirrored : {n d A B : ℕ} → InSteps n d A B → InSteps d n B A
-mirrored s = record { least = at-least (least-pos (s .least)) (s .most); most = at-most (s .least); one-sided = elim (s .one-sided) [ inl e ↦ inr e | inr e ↦ inl e ] }
+mirrored s = record { least = at-least (least-pos (s .least)) (s .most); most = at-most (s .least) }
 
--- what was read from X / 2 ^ 22, above log2 1 or below it
+-- what was read from X / 2 ^ 22, of X / 2 ^ 149
+pub over-one : (X W : ℕ) (r : Read X W) → AtLeast X (2 ^ 149) (2 ^ 32 * W + 0 * 2 ^ 86) (5 * r .F + 127 * 2 ^ 86) (2 ^ 86) × AtMost X (2 ^ 149) (2 ^ 32 * W + 5 * r .F + 0 * 2 ^ 86) (0 + 127 * 2 ^ 86) (2 ^ 86)
+over-one X W r = (
+  least-of-more (lit< tt) (le-of-eq (ap (λ (i : ℕ). i * 2 ^ 149) (mul-one X))) (least-shift 0 127 (r .least)),
+  most-of-less (lit< tt) (le-of-eq (ap (λ (i : ℕ). i * 2 ^ 149) (sym (mul-one X)))) (most-shift 0 127 (r .most)),
+)
+
+-- so it is above log2 1 or below it
 pub in-steps : (X W : ℕ) → Read X W → InSteps X (2 ^ 149) (stepsAbove W) (stepsBelow W)
 in-steps X W r = record {
   least =
       least-over (sum-below W (r .F) near-one)
       (least-of-smaller (lit< tt) (le-of-eq (twice (2 ^ 32 * W + 0 * 2 ^ 86) (5 * r .F + 127 * 2 ^ 86) (2 ^ 86)))
-      (least-of-more (lit< tt) (le-of-eq (ap (λ (i : ℕ). i * 2 ^ 149) (mul-one X))) (least-shift 0 127 (r .least))));
+      (over-one X W r .0));
   most =
       most-over (sum-above W (r .F) near-one)
       (most-of-larger (lit< tt) (le-of-eq (sym (twice (2 ^ 32 * W + 5 * r .F + 0 * 2 ^ 86) (0 + 127 * 2 ^ 86) (2 ^ 86))))
-      (most-of-less (lit< tt) (le-of-eq (ap (λ (i : ℕ). i * 2 ^ 149) (sym (mul-one X)))) (most-shift 0 127 (r .most))));
-  one-sided = elim (le-or-lt W atOne) [ inl h ↦ inl (omega arith) | inr h ↦ inr (omega arith) ];
+      (over-one X W r .1));
 }
   where
     near-one : 2 * r .F ≤ 3 * (stepsAbove W + stepsBelow W)
     near-one = distance (r .k) (r .F) W (r .place) (r .small)
-
--- ---- of the float: 33 parts in 2 ^ 29
--- T of its units against the distance A, in steps of Q units: A is within 15 parts in 2 ^ 33 of the logarithm, and T within one part in 2 ^ 24 of A
-module _ (T A Q : ℕ) where
-  errors-most : T * 2 ^ 24 ≤ A * Q * (2 ^ 24 + 1) → T * 2 ^ 62 ≤ (2 ^ 33 - 15) * (log2ErrorDen + log2ErrorNum) * (A * Q)
-  errors-most h = omega arith
-
-  errors-least : A * Q * (2 ^ 24 - 1) ≤ T * 2 ^ 24 → (2 ^ 33 + 15) * (log2ErrorDen - log2ErrorNum) * (A * Q) ≤ T * 2 ^ 62
-  errors-least h = omega arith
-
-  -- the same as exponents
-  scale-most : T * 2 ^ 62 ≤ (2 ^ 33 - 15) * (log2ErrorDen + log2ErrorNum) * (A * Q) → T * log2ErrorDen * 2 ^ 87 ≤ (2 ^ 33 - 15) * A * (Q * 2 ^ 54 * (log2ErrorDen + log2ErrorNum))
-  scale-most h = omega arith
-
-  scale-least : (2 ^ 33 + 15) * (log2ErrorDen - log2ErrorNum) * (A * Q) ≤ T * 2 ^ 62 → (2 ^ 33 + 15) * A * (Q * 2 ^ 54 * (log2ErrorDen - log2ErrorNum)) ≤ T * log2ErrorDen * 2 ^ 87
-  scale-least h = omega arith
-
--- from 1 on
-module _ {n d A B : ℕ} (s : InSteps n d A B) (up : d ≤ n) where
-  -- there is nothing below log2 1
-  none-below : B ≡ 0
-  none-below = elim (s .one-sided) [ inl e ↦ omega (arith, exponents (from-one (s .least .per) up) (s .most)) | inr e ↦ e ]
-
-  -- and a float within one part in 2 ^ 24 of the A steps is within 33 parts in 2 ^ 29 of the logarithm
-  pub around : (T : ℕ) → T * 2 ^ 24 ≤ A * 2 ^ 95 * (2 ^ 24 + 1) → A * 2 ^ 95 * (2 ^ 24 - 1) ≤ T * 2 ^ 24 → AroundLog log2ErrorNum log2ErrorDen T n d
-  around T most least = record {
-    least = least-of-smaller (lit< tt) (rw none-below (add-le-add (scale-most T A (2 ^ 95) (errors-most T A (2 ^ 95) most)) (lit≤ tt))) (s .least);
-    most = most-of-larger (lit< tt) (rw none-below (add-le-add (scale-least T A (2 ^ 95) (errors-least T A (2 ^ 95) least)) (lit≤ tt))) (s .most);
-  }

@@ -2,8 +2,8 @@
 use mathlib.Core.Path.{_≡_}
 use Prim.Native.Nat.{ℕ, _+_, _-_, _*_, _^_, _≤_, _<_}
 use lib.Ieee.{Float, binary32, ofBits}
-use Rattle.exact.specs.Power.{AtMost, AtLeast}
-use Rattle.units.specs.Units.{mag, P, N, Number, Le}
+use Rattle.exact.specs.Power.{AtMost, AtLeast, LessThan, MoreThan}
+use Rattle.units.specs.Units.{mag, P, N, Number, Le, Lt}
 use Rattle.units.specs.Answers.{Answers}
 use Rattle.logs.specs.Value.{log2Of}
 
@@ -12,6 +12,12 @@ pub record Accepts (x : Float) : Type 0 where
   pub number : Number x
   pub at-least-zero : N x ≡ 0
   pub normal : 2 ^ 23 ≤ mag x
+
+-- r is the float nearest to log2 x: of every other finite float z, log2 x lies on r's side of the middle of r and z, which is (P r + P z - (N r + N z)) / 2 units of 2 ^ -149.
+-- So no float is nearer, and no tie occurs
+pub record NearestLog (x r : Float) : Type 0 where
+  pub from-above : (z : Float) → Number z → Lt r z → LessThan (mag x) (2 ^ 149) (P r + P z) (N r + N z) (2 * 2 ^ 149)
+  pub from-below : (z : Float) → Number z → Lt z r → MoreThan (mag x) (2 ^ 149) (P r + P z) (N r + N z) (2 * 2 ^ 149)
 
 -- t / (1 + a / b) ≤ log2 (n / d) ≤ t / (1 - a / b), for t of T units of 2 ^ -149
 pub record AroundLog (a b T n d : ℕ) : Type 0 where
@@ -23,18 +29,20 @@ pub record NearLog (a b : ℕ) (x r : Float) : Type 0 where
   pub above : 2 ^ 149 ≤ mag x → AroundLog a b (P r) (mag x) (2 ^ 149)
   pub below : mag x ≤ 2 ^ 149 → AroundLog a b (N r) (2 ^ 149) (mag x)
 
--- the proved relative error, 33 / 2 ^ 29: the last rounding is 32, and the polynomials and their floors share the rest. Change request Q2 asks for 1 / 2 ^ 21
+-- the proved relative error, 1 / 2 ^ 24, half a step. Change request Q2 asks for 1 / 2 ^ 21
 abbrev pub log2ErrorNum : ℕ
-log2ErrorNum = 33
+log2ErrorNum = 1
 
 abbrev pub log2ErrorDen : ℕ
-log2ErrorDen = 2 ^ 29
+log2ErrorDen = 2 ^ 24
 
 -- the whole promise of x, answered by a code and the result r
 pub record Log2 (x : Float) (code : ℕ) (r : Float) : Type 0 where
   -- codes, the value
   pub answers : Answers Accepts log2Of x code r
-  -- within 33 / 2 ^ 29 of the real number log2 x, relatively
+  -- the nearest float
+  pub nearest : Accepts x → NearestLog x r
+  -- and so within 1 / 2 ^ 24 of the real number log2 x, relatively
   pub near : Accepts x → NearLog log2ErrorNum log2ErrorDen x r
   -- the logarithm's sign: negative below 1, +0 at 1, positive above
   pub below-one : Accepts x → mag x < 2 ^ 149 → 0 < N r
