@@ -105,14 +105,6 @@ bool near_exponential(const struct function *f, float x, float result)
     return x == 0 ? result == 1 : within_relative(f, x, result);
 }
 
-bool near_logarithm(const struct function *f, float x, float result)
-{
-    int exponent;
-    if (frexpf(x, &exponent) == 0.5f)
-        return bits_of(result) == bits_of((float)(exponent - 1));
-    return within_relative(f, x, result);
-}
-
 bool within_absolute(const struct function *f, float x, float result)
 {
     return fabs(result - f->exact(x)) <= f->bound;

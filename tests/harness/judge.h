@@ -27,13 +27,13 @@ struct function {
 };
 
 /* Kinds of check, for the field `right`. The nearest float is decided exactly,
- * a root's in whole numbers, a power's by MPFR; the bounds by the field `exact`, whose own error of about
- * 2^-52 is far below any of them. */
+ * a root's in whole numbers, a power's and a logarithm's by MPFR; the bounds by
+ * the field `exact`, whose own error of about 2^-52 is far below any of them. */
 bool nearest_root(const struct function *f, float x, float result);
 bool nearest_reciprocal_root(const struct function *f, float x, float result);
 bool nearest_power(const struct function *f, float x, float result);
+bool nearest_logarithm(const struct function *f, float x, float result); /* +0 at 1 */
 bool near_exponential(const struct function *f, float x, float result); /* exactly 1 at 0 */
-bool near_logarithm(const struct function *f, float x, float result); /* relatively; exact at powers of two, +0 at 1 */
 bool near_wave(const struct function *f, float x, float result); /* and from -1 to 1 */
 bool near_wave_of_pi(const struct function *f, float x, float result); /* exact where 2x is whole, 0 is +0 */
 bool within_relative(const struct function *f, float x, float result);
