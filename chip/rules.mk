@@ -1,6 +1,7 @@
 # The chip: the same proved module compiled for a Cortex-M4F, and programs on an emulated one.
 #
-# make chip         build/chip/libearmath.a; FOR=riscv32imafc or FOR=cortex-m33 for another target, build/$(FOR)/libearmath.a
+# make chip         build/chip/libearmath.a; FOR=riscv32imafc or FOR=cortex-m33 for another target, build/$(FOR)/libearmath.a;
+#                   OPTIMIZE=-Os for a library of 15 KB instead of 21
 # make chip-tests   the programs that the gate runs on the emulated chip
 # make chip-every   all 2^32 patterns of ONLY=ear_exp2, or of every function that takes one, on the emulated chip: the
 #                   same bits as on the host (an hour for each)
@@ -12,6 +13,7 @@
 # Tables that a function uses together lie together, up to 239 bytes: two addresses for the logarithm's five. (With 320 bytes it is one, 3 instructions less,
 # and the tables of the transform are merged too, which takes 4 % longer by it.)
 FOR = chip
+OPTIMIZE = -O3
 TARGET_chip = --target=thumbv7em-none-eabihf -mcpu=cortex-m4 -mfloat-abi=hard -Xclang -target-feature -Xclang -use-misched \
 	-mllvm -disable-constant-hoisting -mllvm -inline-threshold=400 -mllvm -global-merge-on-const -mllvm -global-merge-max-offset=239
 TARGET_cortex-m33 = --target=thumbv8m.main-none-eabihf -mcpu=cortex-m33 -mfloat-abi=hard
@@ -32,7 +34,7 @@ build/chip/module.ll: chip/module $(LIBRARY)
 
 build/%/libearmath.a: build/chip/module.ll
 	@mkdir -p $(@D)
-	$(KIT_TOOLS)/clang $(or $(TARGET_$*),$(error no target $* in chip/rules.mk)) -O3 -ffunction-sections -fdata-sections \
+	$(KIT_TOOLS)/clang $(or $(TARGET_$*),$(error no target $* in chip/rules.mk)) $(OPTIMIZE) -ffunction-sections -fdata-sections \
 		-fstack-usage -Wno-override-module -c -x ir $< -o $(@D)/earmath.o
 	rm -f $@
 	$(KIT_TOOLS)/llvm-ar rcsD $@ $(@D)/earmath.o

@@ -13,3 +13,4 @@ pub mod Chosen
 pub mod Relative
 pub mod Asked
 pub mod Logarithm
+pub mod Unique
