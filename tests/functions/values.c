@@ -86,6 +86,14 @@ static const uint32_t edge_logarithms[][2] = {
 
 enum { EDGE_LOGARITHMS = sizeof edge_logarithms / sizeof edge_logarithms[0], NORMAL_EXPONENTS = 254 };
 
+/* Logarithms whose middle of two floats, as a power, comes nearest to x, 2^-53 to 2^-50 away; the first is in ulp the hardest of all. */
+static const uint32_t hardest_logarithms[][2] = {
+    {0x40207ab9, 0x3fa9c25e}, {0x3f7e3274, 0xbc270e8b}, {0x3f7fffff, 0xb3b8aa3c}, {0x3f7fff99, 0xb714991a},
+    {0x3f800001, 0x3438aa3a},
+};
+
+enum { HARDEST_LOGARITHMS = sizeof hardest_logarithms / sizeof hardest_logarithms[0] };
+
 static void logarithms(void)
 {
     int rows = 0, edges = 0, whole = 0;
@@ -95,6 +103,11 @@ static void logarithms(void)
         edges += gives("ear_log2", ear_log2, edge_logarithms[i][0], edge_logarithms[i][1]);
     for (int exponent = 1; exponent <= NORMAL_EXPONENTS; exponent++)
         whole += gives("ear_log2", ear_log2, (uint32_t)exponent << 23, bits_of((float)(exponent - 127)));
+    int hardest = 0;
+    for (int i = 0; i < HARDEST_LOGARITHMS; i++)
+        hardest += gives("ear_log2", ear_log2, hardest_logarithms[i][0], hardest_logarithms[i][1]);
+    group(hardest == HARDEST_LOGARITHMS, "ear_log2: %d of %d logarithms that are nearest to the middle of two floats", hardest,
+          HARDEST_LOGARITHMS);
     group(rows == LOGARITHM_ROWS, "ear_log2: %d of %d values of document 01, section 8", rows, LOGARITHM_ROWS);
     group(edges == EDGE_LOGARITHMS, "ear_log2: %d of %d logarithms next to 1, 1/2 and the cut", edges, EDGE_LOGARITHMS);
     group(whole == NORMAL_EXPONENTS, "ear_log2: exact at %d of %d powers of two, +0 at 1", whole, NORMAL_EXPONENTS);
