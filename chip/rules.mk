@@ -13,9 +13,9 @@
 # Tables that a function uses together lie together, up to 239 bytes: two addresses for the logarithm's five. (With 320 bytes it is one, 3 instructions less,
 # and the tables of the transform are merged too, which takes 4 % longer by it.)
 FOR = chip
-OPTIMIZE = -O3
+OPTIMIZE = -O3 -mllvm -inline-threshold=400
 TARGET_chip = --target=thumbv7em-none-eabihf -mcpu=cortex-m4 -mfloat-abi=hard -Xclang -target-feature -Xclang -use-misched \
-	-mllvm -disable-constant-hoisting -mllvm -inline-threshold=400 -mllvm -global-merge-on-const -mllvm -global-merge-max-offset=239
+	-mllvm -disable-constant-hoisting -mllvm -global-merge-on-const -mllvm -global-merge-max-offset=239
 TARGET_cortex-m33 = --target=thumbv8m.main-none-eabihf -mcpu=cortex-m33 -mfloat-abi=hard
 TARGET_riscv32imafc = --target=riscv32-none-elf -march=rv32imafc -mabi=ilp32f
 
