@@ -40,7 +40,7 @@ wrong-number w a n n′ = record {
   bent = λ top b k m t s c ch e. absurd (n′ (ap length e ∙ knee-length b k m t s c));
   changed-straight = λ top b m t c ch e. absurd (n (changed-length e ∙ segment-length b m t c));
   changed-bent = λ top b k m t s c ch e. absurd (n′ (changed-length e ∙ knee-length b k m t s c));
-  out-of-range = λ h z. omega arith;
+  out-of-range = λ h k. absurd (elim h [ inl e ↦ n e | inr e ↦ n′ e ]);
   answered = λ h e. elim h [ inl l ↦ absurd (n l) | inr l ↦ absurd (n′ l) ];
   at-least = λ z. absurd (omega arith);
   at-most = λ z. absurd (omega arith);
@@ -58,7 +58,7 @@ module _ (w : List ℕ) (a : Float) (six : length w ≡ 6) where
     bent = λ top b k m t s c ch e. absurd (not-bent (ap length e ∙ knee-length b k m t s c));
     changed-straight = λ top b m t c ch e. refl;
     changed-bent = λ top b k m t s c ch e. refl;
-    out-of-range = λ h z. omega arith;
+    out-of-range = λ h k. inr refl;
     answered = λ h e. inr refl;
     at-least = λ z. absurd (omega arith);
     at-most = λ z. absurd (omega arith);
@@ -75,7 +75,7 @@ module _ (w : List ℕ) (a : Float) (six : length w ≡ 6) where
       bent = λ top b k m t s c ch e. absurd (not-bent (ap length e ∙ knee-length b k m t s c));
       changed-straight = λ top b m t c ch e. absurd (changed top b m t c ch e);
       changed-bent = λ top b k m t s c ch e. absurd (not-bent (changed-length e ∙ knee-length b k m t s c));
-      out-of-range = λ h z. omega arith;
+      out-of-range = λ h k. inl refl;
       answered = λ h e. absurd (n e);
       at-least = λ z. absurd (omega arith);
       at-most = λ z. absurd (omega arith);
@@ -88,7 +88,7 @@ module _ (w : List ℕ) (a : Float) (six : length w ≡ 6) where
       bent = λ top b k m t s c ch e. absurd (not-bent (ap length e ∙ knee-length b k m t s c));
       changed-straight = λ top b m t c ch e. absurd (changed top b m t c ch e);
       changed-bent = λ top b k m t s c ch e. absurd (not-bent (changed-length e ∙ knee-length b k m t s c));
-      out-of-range = λ h z. h v;
+      out-of-range = λ h k. absurd (k v);
       answered = λ h e. inl refl;
       at-least = λ z. bounded w (sizeBits a) .0;
       at-most = λ z. rw six (bounded w (sizeBits a) .1);
@@ -106,7 +106,7 @@ module _ (w : List ℕ) (a : Float) (twelve : length w ≡ 12) where
     bent = λ top b k m t s c ch e. absurd (n (rw e (knee-passes top b k m t s c ch)));
     changed-straight = λ top b m t c ch e. refl;
     changed-bent = λ top b k m t s c ch e. refl;
-    out-of-range = λ h z. omega arith;
+    out-of-range = λ h k. inr refl;
     answered = λ h e. inr refl;
     at-least = λ z. absurd (omega arith);
     at-most = λ z. absurd (omega arith);
@@ -120,7 +120,7 @@ module _ (w : List ℕ) (a : Float) (twelve : length w ≡ 12) where
       bent = λ top b k m t s c ch e. bends.out-of-range top b k m t s c a i ch n;
       changed-straight = λ top b m t c ch e. absurd (not-straight (changed-length e ∙ segment-length b m t c));
       changed-bent = λ top b k m t s c ch e. absurd (changed-knee top b k m t s c ch w e p);
-      out-of-range = λ h z. omega arith;
+      out-of-range = λ h k. inl refl;
       answered = λ h e. absurd (n e);
       at-least = λ z. absurd (omega arith);
       at-most = λ z. absurd (omega arith);
@@ -133,7 +133,7 @@ module _ (w : List ℕ) (a : Float) (twelve : length w ≡ 12) where
       bent = λ top b k m t s c ch e. rw (e, same-bent top b k m t s c ch a v) (bends.kept top b k m t s c ch a v);
       changed-straight = λ top b m t c ch e. absurd (not-straight (changed-length e ∙ segment-length b m t c));
       changed-bent = λ top b k m t s c ch e. absurd (changed-knee top b k m t s c ch w e p);
-      out-of-range = λ h z. h v;
+      out-of-range = λ h k. absurd (k v);
       answered = λ h e. inl refl;
       at-least = λ z. bent-bounded w (sizeBits a) p .0;
       at-most = λ z. rw twelve (bent-bounded w (sizeBits a) p .1);

@@ -60,8 +60,8 @@ pub record Step (w : List ℕ) (a : Float) (code i : ℕ) : Type 0 where
   -- whatever single word of a fitted channel is changed: code 4
   pub changed-straight : (top : ℕ) (b m : Float) (t c : ℕ) → Channel top b m t c → Changed (fittedOf b m t c) w → code ≡ 4
   pub changed-bent : (top : ℕ) (b k m : Float) (t s c : ℕ) → BentChannel top b k m t s c → Changed (fittedKnee b k m t s c) w → code ≡ 4
-  -- of any words: no step for what is no envelope value, and for one code 4, or a step between the threshold and the comfort that stand in the words
-  pub out-of-range : ¬ Envelope a → ¬ (code ≡ 0)
+  -- of any words: code 1, OUT_OF_RANGE, or 4 for what is no envelope value, and for one code 4, or a step between the threshold and the comfort that stand in the words
+  pub out-of-range : (length w ≡ straightWords) ⊎ (length w ≡ bentWords) → ¬ Envelope a → (code ≡ 1) ⊎ (code ≡ 4)
   pub answered : (length w ≡ straightWords) ⊎ (length w ≡ bentWords) → Envelope a → (code ≡ 0) ⊎ (code ≡ 4)
   pub at-least : code ≡ 0 → thresholdIn w ≤ i
   pub at-most : code ≡ 0 → i ≤ comfortIn w
