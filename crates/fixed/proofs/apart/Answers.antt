@@ -1,0 +1,26 @@
+-- `fixed::apart` meets its contract: each branch is a law of `Take`. Assumes nothing.
+use borrow.Author.Rules.{rules}
+use native.Mathlib.Omega.{arith}
+use Rattle.fixed.proofs.Take.{no_nan, leading_low, shift_low, apart_low, apart-high}
+use Rattle.fixed.proofs.apart.Goals as goal
+
+pub float_to_bits-b : goal.float_to_bits-b
+float_to_bits-b c = no_nan c.args.x c.requires.number
+
+pub overflow_sub-s : goal.overflow_sub-s
+overflow_sub-s c = leading_low c.before.args.x c.before.requires c.if-b-lt8388608.true
+
+pub overflow_shl-result : goal.overflow_shl-result
+overflow_shl-result c = omega (arith, shift_low c.before.args.x c.before.requires c.if-b-lt8388608.true)
+
+pub overflow_sub-result : goal.overflow_sub-result
+overflow_sub-result c = omega (arith, shift_low c.before.args.x c.before.requires c.if-b-lt8388608.true)
+
+pub overflow_add-result-else-b-lt8388608 : goal.overflow_add-result-else-b-lt8388608
+overflow_add-result-else-b-lt8388608 c = omega (arith, (apart-high c.before.args.x c.before.requires c.if-b-lt8388608.false).high)
+
+pub returns-then-b-lt8388608 : goal.returns-then-b-lt8388608
+returns-then-b-lt8388608 c = apart_low c.before.args.x c.before.requires c.if-b-lt8388608.true
+
+pub returns-else-b-lt8388608 : goal.returns-else-b-lt8388608
+returns-else-b-lt8388608 c = apart-high c.before.args.x c.before.requires c.if-b-lt8388608.false

@@ -1,0 +1,15 @@
+-- `sums::carry` meets its contract. The loop's invariant: s is the sum of as many blocks as the digits that were carried, up to block i. Assumes nothing.
+use mathlib.Core.Path.{◌≡◌, sym, ap, ap₂, ◌∙◌}
+use Prim.Native.Nat.{◌+◌, ◌*◌, ◌^◌, ◌<◌}
+use native.Mathlib.Nat.{mul-one}
+use native.Mathlib.Omega.{arith}
+use borrow.Author.Rules.{rules}
+use Rattle.sums.specs.Value.{block_of}
+use Rattle.sums.proofs.Counter.{in_counter, block_at, carry_on, carry_place, carry_end}
+use Rattle.sums.proofs.carry.Given as goal
+
+abbrev pub invariant-loop-c : goal.invariant-loop-c
+invariant-loop-c l = (l.i + 1 ≡ (l.c + 1) * 2 ^ l.l) × (l.s ≡ block_at l.a l.b l.l (l.c * 2 ^ l.l))
+
+abbrev pub decreases-loop-c : goal.decreases-loop-c
+decreases-loop-c l = l.c
