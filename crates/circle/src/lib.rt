@@ -1,5 +1,7 @@
 // Sine and cosine, of x and of pi x: whole numbers inside, one rounding at the end. An angle is its phase, a whole number of 2^-64 turns.
 
+#![tactic(auto)]
+
 mod phase;
 
 ghost use Rattle.std.specs.Prelude.{◌≡◌, ◌-◌, ◌*◌, ◌/◌, ◌≤◌};

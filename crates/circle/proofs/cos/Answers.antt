@@ -1,5 +1,5 @@
 -- `circle::cos` meets its promise: the pattern's test tells whether x is accepted. Assumes nothing.
-use Rattle.std.proofs.Common.{◌≡◌, ℕ, T, sym, ap, ◌∙◌, subst, ⊎_elim, arith, rules}
+use Rattle.std.proofs.Common.{◌≡◌, ℕ, T, sym, ap, ◌∙◌, subst, arith}
 use Rattle.fixed.proofs.Take.{equal_to_itself, no_number}
 use Rattle.circle.specs.Phase.{radians}
 use Rattle.circle.specs.Wave.{wave_bits, quarter_on}
@@ -7,7 +7,7 @@ use Rattle.circle.specs.Promise.{Accepts}
 use Rattle.circle.proofs.Taken.{size_bits}
 use Rattle.circle.proofs.Range.{in_range, out_of_range}
 use Rattle.circle.proofs.Promise.{cos_success, cos_refusal}
-use Rattle.circle.proofs.cos.Goals.{Joined-size-lt-FAR}
+use Rattle.circle.proofs.cos.Goals.{Joined-size-lt-FAR, then-size-lt-FAR, else-size-lt-FAR+then-size-lt-INFINITY}
 use Rattle.circle.proofs.cos.Goals as goal
 
 pub returns-then-x : goal.returns-then-x
@@ -24,7 +24,12 @@ met : (c : Joined-size-lt-FAR) → Accepts c.args.x × (c.if-size-lt-FAR.phase �
 met c =
     let x = c.args.x in
     let fits32 = subst T (sym c.well_formed.0.1) tt in
-    ⊎_elim (λ w. (in_range x fits32 (omega (arith, w.0.true)), w.2 ∙ w.1.ensures)) (λ w. (in_range x fits32 (omega (arith, w.1.true)), w.3 ∙ w.2.ensures)) c.if-size-lt-FAR.branch
+    elim c.if-size-lt-FAR.branch [
+      | then-size-lt-FAR w ↦
+          (in_range x fits32 (omega (arith, w.if-size-lt-FAR.true)), w.phase-is ∙ w.radians-phase.ensures)
+      | else-size-lt-FAR+then-size-lt-INFINITY w ↦
+          (in_range x fits32 (omega (arith, w.if-size-lt-INFINITY.true)), w.phase-is ∙ w.far_radians.ensures)
+    ]
 
 pub returns : goal.returns
 returns c = let (a, e) = met (goal.at.returns c).Joined-size-lt-FAR in cos_success _ a (c.cosine.ensures ∙ ap (λ (n : ℕ). wave_bits (quarter_on n)) e)

@@ -1,5 +1,5 @@
 -- `circle::cospi` meets its promise: the pattern's test tells whether x is accepted. Assumes nothing.
-use Rattle.std.proofs.Common.{ℕ, T, sym, ap, ◌∙◌, subst, arith, rules}
+use Rattle.std.proofs.Common.{ℕ, T, sym, ap, ◌∙◌, subst, arith}
 use Rattle.fixed.proofs.Take.{equal_to_itself, no_number}
 use Rattle.circle.specs.Wave.{wave_bits, quarter_on}
 use Rattle.circle.specs.Promise.{AcceptsPi}

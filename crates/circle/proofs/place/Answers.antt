@@ -1,5 +1,5 @@
 -- `circle::place` meets its contract: an even quarter, and an odd one. Assumes nothing.
-use Rattle.std.proofs.Common.{rules, eq-eqb, ne_eqb}
+use Rattle.std.proofs.Common.{eq-eqb, ne_eqb}
 use Rattle.circle.specs.Wave.{forward, into_quarter, place_of}
 use Rattle.circle.proofs.place.Goals as goal
 

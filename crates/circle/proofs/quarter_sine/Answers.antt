@@ -1,5 +1,5 @@
 -- `circle::quarter_sine` meets its contract: its steps are those of Horner's rule, and no product has more than 64 digits. Assumes nothing.
-use Rattle.std.proofs.Common.{◌≡◌, ℕ, ◌-◌, ◌*◌, ◌/◌, ◌≤◌, sym, ap, mul-le-mul, arith, rules}
+use Rattle.std.proofs.Common.{◌≡◌, ℕ, ◌-◌, ◌*◌, ◌/◌, ◌≤◌, sym, ap, mul-le-mul, arith}
 use Rattle.fixed.specs.Horner.{alternating}
 use Rattle.fixed.proofs.Alternating.{alternating-one, alternating_step}
 use Rattle.circle.specs.Kernel.{kernel_first, kernel_rest, square_of, slope_of, quarter_sine}
@@ -26,7 +26,7 @@ module _ (c : After-step-p1) where
 
   last : c.step-p1.result * square_of w ≤ 2774394659 * 4294967295
   last =
-      let z : square_of w ≤ 4294967295 = omega (arith, square c) in
+      let z : square_of w ≤ 4294967295 = omega (arith, product w w (omega arith) (omega arith)) in
       mul-le-mul c.step-p1.ensures.1 z
 
   made : c.step-p1.result ≡ alternating 4294967296 kernel_rest (square_of w)

@@ -1,5 +1,5 @@
 -- `circle::sinpi` meets its promise: the pattern's test tells whether x is accepted. Assumes nothing.
-use Rattle.std.proofs.Common.{ℕ, ◌/◌, ◌<◌, T, sym, ap, ◌∙◌, subst, arith, rules}
+use Rattle.std.proofs.Common.{ℕ, ◌/◌, ◌<◌, T, sym, ap, ◌∙◌, subst, arith}
 use lib.Ieee.{binary32, to_bits}
 use lib.Ieee.Bits.{to_bits-lt}
 use Rattle.fixed.proofs.Take.{equal_to_itself, no_number}

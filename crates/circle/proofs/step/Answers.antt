@@ -1,5 +1,5 @@
 -- `circle::step` meets its contract: a product of two numbers below 2 ^ 32 fits, and a fraction of p is at most p. Assumes nothing.
-use Rattle.std.proofs.Common.{◌*◌, ◌≤◌, mul-le-mul_left, arith, rules}
+use Rattle.std.proofs.Common.{◌*◌, ◌≤◌, mul-le-mul_left, arith}
 use Rattle.circle.proofs.step.Goals.{Start}
 use Rattle.circle.proofs.step.Goals as goal
 

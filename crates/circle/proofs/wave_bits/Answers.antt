@@ -1,5 +1,5 @@
 -- `circle::wave_bits` meets its contract: sign and size do not meet. Assumes nothing.
-use Rattle.std.proofs.Common.{◌≡◌, ℕ, ◌+◌, ◌*◌, ◌/◌, ◌^◌, ◌<◌, ◌≤◌, sym, ap, ◌∙◌, le_trans, le_of_eq, arith, rules, eq-eqb, ne_eqb}
+use Rattle.std.proofs.Common.{◌≡◌, ℕ, ◌+◌, ◌*◌, ◌/◌, ◌^◌, ◌<◌, ◌≤◌, sym, ap, ◌∙◌, le_trans, le_of_eq, arith, eq-eqb, ne_eqb}
 use Rattle.fixed.specs.Rounded.{nearest_bits}
 use Rattle.fixed.proofs.Rounding.{bits_fit}
 use Rattle.circle.specs.Kernel.{quarter_sine}

@@ -1,5 +1,5 @@
 -- `circle::phase::first_window` meets its contract, by the tests of the first windows. Assumes nothing.
-use Rattle.std.proofs.Common.{◌≡◌, ℕ, ◌-◌, ◌/◌, ◌%◌, ◌^◌, ◌<◌, ◌≤◌, ap, ◌∙◌, div-le_self, arith, rules}
+use Rattle.std.proofs.Common.{◌≡◌, ℕ, ◌-◌, ◌/◌, ◌%◌, ◌^◌, ◌<◌, ◌≤◌, ap, ◌∙◌, div-le_self, arith}
 use Rattle.circle.specs.Phase.{first_word, first_digits}
 use Rattle.circle.proofs.Window.{first-word, first-digits}
 use Rattle.circle.proofs.phase.first_window.Goals as goal

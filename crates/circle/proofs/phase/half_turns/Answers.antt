@@ -1,5 +1,5 @@
 -- `circle::phase::half_turns` meets its contract: each return is a law of the shift. Assumes nothing.
-use Rattle.std.proofs.Common.{arith, rules}
+use Rattle.std.proofs.Common.{arith}
 use Rattle.circle.specs.Phase.{significand_of, exponent_field, half_turns}
 use Rattle.circle.proofs.Shifts.{shifted_out, shifted_right, shifted_left}
 use Rattle.circle.proofs.phase.half_turns.Goals as goal

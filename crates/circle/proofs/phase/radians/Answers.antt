@@ -1,5 +1,5 @@
 -- `circle::phase::radians` meets its contract. Assumes nothing.
-use Rattle.std.proofs.Common.{ℕ, ◌*◌, ◌%◌, ◌^◌, ap, ◌∙◌, rules}
+use Rattle.std.proofs.Common.{ℕ, ◌*◌, ◌%◌, ◌^◌, ap, ◌∙◌}
 use Rattle.circle.specs.Phase.{significand_of, radians}
 use Rattle.circle.proofs.phase.radians.Goals as goal
 

@@ -1,5 +1,5 @@
 -- `circle::phase::turns` meets its contract: the product is made of two, of 32 digits of the window each. Assumes nothing.
-use Rattle.std.proofs.Common.{◌≡◌, ℕ, ◌+◌, ◌*◌, ◌/◌, ◌%◌, ◌^◌, ◌≤◌, ap, ◌∙◌, mul-le-mul, arith, rules}
+use Rattle.std.proofs.Common.{◌≡◌, ℕ, ◌+◌, ◌*◌, ◌/◌, ◌%◌, ◌^◌, ◌≤◌, ap, ◌∙◌, mul-le-mul, arith}
 use Rattle.circle.specs.Phase.{significand_of}
 use Rattle.circle.proofs.phase.turns.Goals as goal
 
@@ -26,4 +26,4 @@ pub overflow_mul-m-2 : goal.overflow_mul-m-2
 overflow_mul-m-2 c = omega (arith, product (significand_of c.args.b) (c.args.w % 4294967296) (omega arith) (omega arith))
 
 pub returns : goal.returns
-returns c = c.wrapping_add_u64.ensures ∙ joined (significand_of c.args.b) c.args.w
+returns c = c.wrapping_add_u64.ensures.value ∙ joined (significand_of c.args.b) c.args.w

@@ -1,5 +1,4 @@
 -- `circle::phase::window` meets its contract: the three words are the table's. Assumes nothing.
-use Rattle.std.proofs.Common.{rules}
 use Rattle.circle.specs.Phase.{window_of}
 use Rattle.circle.proofs.phase.window.Goals as goal
 
