@@ -1,6 +1,6 @@
 -- The square root: the whole number nearest to the root of 46 to 48 digits of x, put together with half the exponent, is the float nearest to the root of x.
 -- Assumes nothing.
-use Rattle.std.proofs.Common.{◌≡◌, ℕ, zero, suc, ◌+◌, ◌-◌, ◌*◌, ◌%◌, ◌^◌, ◌<◌, ◌≤◌, false, leb, sym, refl, ap, ◌∙◌, subst, inl, inr, zero-le, le_trans, lt_trans, le_of_eq, lt_of_lt_of_le, lt_of_le_of_lt, le_of_lt, mul-le-mul_right, mod-eq_of_lt, mul_assoc, mul-le-mul, mul-le-mul_left, mul-lt-mul_of_pos_right, mul-pos, zero-mul, not-le_of_lt, arith, pow_pos, pow_mono, pow-add, eq-eqb, ne_eqb, le-leb}
+use Rattle.std.proofs.Common.{◌≡◌, ℕ, zero, suc, ◌+◌, ◌-◌, ◌*◌, ◌^◌, ◌<◌, ◌≤◌, false, leb, sym, refl, ap, ◌∙◌, subst, inl, inr, zero-le, le_trans, lt_trans, le_of_eq, lt_of_lt_of_le, lt_of_le_of_lt, le_of_lt, mul-le-mul_right, mul_assoc, mul-le-mul, mul-le-mul_left, mul-lt-mul_of_pos_right, mul-pos, zero-mul, not-le_of_lt, arith, pow_pos, pow_mono, pow-add, eq-eqb, ne_eqb, le-leb}
 use borrow.Author.Tests.{lt-leb}
 use lib.Ieee.{Float, binary32, of_bits, to_bits}
 use Rattle.units.specs.Units.{mag, P, N, Number, Le}

@@ -1,5 +1,7 @@
 // Square root and reciprocal root: whole numbers inside, one pattern put together at the end.
 
+#![tactic(auto)]
+
 mod guess;
 
 ghost use Rattle.std.specs.Prelude.{◌≡◌, ◌+◌, ◌*◌, ◌/◌, ◌^◌, ◌<◌, ◌≤◌, true};

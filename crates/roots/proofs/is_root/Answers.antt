@@ -1,6 +1,5 @@
 -- `roots::is_root` meets its contract: what wraps is far above any 2 s. Assumes nothing.
-use Rattle.std.proofs.Common.{◌≡◌, ℕ, ◌+◌, ◌*◌, ◌%◌, ◌<◌, arith, rules, ltb-true}
-use Rattle.roots.specs.Value.{IsNear}
+use Rattle.std.proofs.Common.{◌≡◌, ℕ, ◌+◌, ◌*◌, ◌%◌, ◌<◌, arith, ltb-true}
 use Rattle.roots.proofs.Steps.{square}
 use Rattle.roots.proofs.is_root.Goals as goal
 
@@ -18,5 +17,6 @@ pub returns : goal.returns
 returns c h =
     let s = c.args.s in
     let n = c.args.n in
-    let (above, below) = both n s (s * s) _ c.requires.0 c.requires.1 (square s c.requires.1) c.wrapping_sub_u64.ensures (ltb-true _ _ h) in
+    let e = c.wrapping_sub_u64.ensures.value in
+    let (above, below) = both n s (s * s) _ c.requires.0 c.requires.1 (square s c.requires.1) e (ltb-true _ _ h) in
     record { half_above = omega arith; half_below = below }

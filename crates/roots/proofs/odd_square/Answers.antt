@@ -1,5 +1,5 @@
 -- `roots::odd_square` meets its contract: two limbs make the product. Assumes nothing.
-use Rattle.std.proofs.Common.{◌≡◌, ℕ, ◌+◌, ◌*◌, ◌/◌, ◌%◌, ◌≤◌, ap, ◌∙◌, arith, lit<, rules}
+use Rattle.std.proofs.Common.{◌≡◌, ℕ, ◌+◌, ◌*◌, ◌/◌, ◌%◌, ◌≤◌, ap, ◌∙◌, arith, lit<}
 use Rattle.roots.proofs.Steps.{odd_small, two_limbs, limb_fits}
 use Rattle.roots.proofs.odd_square.Goals.{Start}
 use Rattle.roots.proofs.odd_square.Goals as goal

@@ -1,5 +1,5 @@
 -- `roots::reciprocal_bits` meets its contract: its pattern is the value function's. Assumes nothing.
-use Rattle.std.proofs.Common.{ℕ, ◌+◌, ◌*◌, ◌<◌, sym, subst, arith, rules}
+use Rattle.std.proofs.Common.{ℕ, ◌+◌, ◌*◌, ◌<◌, sym, subst, arith}
 use Rattle.roots.specs.Value.{IsNearRecip, turned}
 use Rattle.roots.proofs.ReciprocalRoot.{evened, word-least, word-most, word_evened, pattern_in, rsqrt_bits_lem}
 use Rattle.roots.proofs.reciprocal_bits.Goals.{After-settle_reciprocal-h}

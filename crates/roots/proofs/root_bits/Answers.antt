@@ -1,5 +1,5 @@
 -- `roots::root_bits` meets its contract: its pattern is the value function's. Assumes nothing.
-use Rattle.std.proofs.Common.{◌≡◌, ℕ, ◌+◌, ◌*◌, ◌%◌, ◌^◌, ◌<◌, sym, ap, ◌∙◌, subst, le_trans, le_of_eq, lt_of_le_of_lt, le_of_lt, mod-eq_of_lt, mul-le-mul, arith, pow_mono, pow-add, rules}
+use Rattle.std.proofs.Common.{◌≡◌, ℕ, ◌+◌, ◌*◌, ◌%◌, ◌^◌, ◌<◌, sym, ap, ◌∙◌, subst, le_trans, le_of_eq, lt_of_le_of_lt, le_of_lt, mod-eq_of_lt, mul-le-mul, arith, pow_mono, pow-add}
 use lib.Ieee.{Float}
 use Rattle.fixed.specs.Parts.{Apart}
 use Rattle.roots.specs.Value.{IsNear, radicand, halved}

@@ -1,8 +1,10 @@
 -- `roots::rsqrt` meets its promise: each return is an accepted float, or one that the tests show is not. Assumes nothing.
-use Rattle.std.proofs.Common.{T, sym, subst, inl, inr, not-le_of_lt, arith, ltb-false, ltb-true}
+use Rattle.std.proofs.Common.{T, sym, subst, not-le_of_lt, arith}
+use Rattle.units.specs.Units.{Positive}
 use Rattle.fixed.proofs.Take.{equal_to_itself, no_number}
 use Rattle.roots.proofs.Range.{positive, positive-below, positive-above}
 use Rattle.roots.proofs.ReciprocalRoot.{success, refusal}
+use Rattle.roots.proofs.rsqrt.Goals.{Then-b-lt2139095040, else-b-gt0-via-then-b-gt0+else-b-lt2139095040, else-b-gt0-via-else-b-gt0}
 use Rattle.roots.proofs.rsqrt.Goals as goal
 
 pub returns-then-x : goal.returns-then-x
@@ -11,17 +13,21 @@ returns-then-x c = refusal c.args.x (λ p. no_number c.args.x c.if-x.true p.numb
 pub float_to_bits-b : goal.float_to_bits-b
 float_to_bits-b c = equal_to_itself c.args.x c.if-x.false
 
+-- what both tests let through is a finite float above zero
+accepted : (c : Then-b-lt2139095040) → Positive c.args.x
+accepted c = positive c.args.x (subst T (sym c.well_formed.0.1) tt) (omega arith) c.if-b-lt2139095040.true
+
 pub reciprocal_bits-requires : goal.reciprocal_bits-requires
-reciprocal_bits-requires c =
-    positive c.args.x (subst T (sym c.well_formed.0.1) tt) (omega (arith, ltb-true)) (omega (arith, ltb-true))
+reciprocal_bits-requires c = accepted (goal.at.reciprocal_bits-requires c).Then-b-lt2139095040
 
 pub returns-then-b-lt2139095040 : goal.returns-then-b-lt2139095040
-returns-then-b-lt2139095040 c = success c.args.x (reciprocal-bits-requires c _) c.reciprocal_bits.ensures
+returns-then-b-lt2139095040 c =
+    success c.args.x (accepted (goal.at.returns-then-b-lt2139095040 c).Then-b-lt2139095040) c.reciprocal_bits.ensures
 
 pub returns : goal.returns
 returns c =
     let x = c.args.x in
     refusal x (λ p. elim c.else-b-gt0.branch [
-      | inl (t, e) ↦ not-le_of_lt (positive-below x p) (omega (arith, ltb-false))
-      | inr e ↦ not-le_of_lt (positive-above x p) (omega arith)
+      | else-b-gt0-via-then-b-gt0+else-b-lt2139095040 w ↦ not-le_of_lt (positive-below x p) w.if-b-lt2139095040.false
+      | else-b-gt0-via-else-b-gt0 w ↦ not-le_of_lt (positive-above x p) w.if-b-gt0.false
     ])

@@ -1,5 +1,5 @@
 -- `roots::settle_reciprocal` meets its contract: what the two loops' tests say as they fail is the statement. Assumes nothing.
-use Rattle.std.proofs.Common.{◌+◌, ◌-◌, ◌*◌, ◌/◌, ◌<◌, ◌≤◌, arith}
+use Rattle.std.proofs.Common.{◌≤◌, arith}
 use Rattle.roots.proofs.Steps.{recip_up, recip_room, recip_near}
 use Rattle.roots.proofs.settle_reciprocal.Goals.{At-loop-h-2}
 use Rattle.roots.proofs.settle_reciprocal.Goals as goal

@@ -1,6 +1,5 @@
 -- `roots::settle_root` meets its contract: the guess passed its test, or what the two loops' tests say as they fail is the statement. Assumes nothing.
-use Rattle.std.proofs.Common.{◌+◌, ◌-◌, ◌*◌, ◌<◌, ◌≤◌, arith, rules}
-use Rattle.roots.proofs.Steps.{square, up_small, down_room, down_over}
+use Rattle.std.proofs.Common.{◌+◌, ◌-◌, ◌*◌, ◌<◌, ◌≤◌}
 use Rattle.roots.proofs.settle_root.Given as goal
 
 abbrev pub invariant-loop-s : goal.invariant-loop-s

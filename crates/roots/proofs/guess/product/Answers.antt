@@ -1,5 +1,5 @@
 -- `roots::guess::product`: two words' product is one of 64 bits. Assumes nothing.
-use Rattle.std.proofs.Common.{◌≤◌, mul-le-mul, arith, rules}
+use Rattle.std.proofs.Common.{◌≤◌, mul-le-mul, arith}
 use Rattle.roots.proofs.guess.product.Goals as goal
 
 pub overflow_mul-result : goal.overflow_mul-result
