@@ -1,54 +1,53 @@
 // The functions by their names, and their answers as text.
 
-ghost use Rattle.std.specs.Prelude.{◌<◌, ◌≤◌, length};
+ghost use Rattle.std.specs.Prelude.{◌≤◌, ◌<◌, length};
 
 use crate::words;
-use libc::STDOUT_FILENO;
 use words::say;
 
 // The functions' names in the order of their numbers, from 1 on.
 const NAMES: [u8; 86] =
     *b"sqrt rsqrt exp2 exp log2 sinpi cospi sin cos dot dot_nearest softmax2 softmax loudness";
 
-pub const UNKNOWN: usize = 0;
+pub const UNKNOWN: u32 = 0;
 
-const SQRT: usize = 1;
+const SQRT: u32 = 1;
 
-const RSQRT: usize = 2;
+const RSQRT: u32 = 2;
 
-const EXP2: usize = 3;
+const EXP2: u32 = 3;
 
-const EXP: usize = 4;
+const EXP: u32 = 4;
 
-const SINPI: usize = 6;
+const SINPI: u32 = 6;
 
-const COSPI: usize = 7;
+const COSPI: u32 = 7;
 
-const SIN: usize = 8;
+const SIN: u32 = 8;
 
-const COS: usize = 9;
+const COS: u32 = 9;
 
-const DOT: usize = 10;
+const DOT: u32 = 10;
 
-const DOT_NEAREST: usize = 11;
+const DOT_NEAREST: u32 = 11;
 
-const SOFTMAX2: usize = 12;
+const SOFTMAX2: u32 = 12;
 
-const SOFTMAX: usize = 13;
+const SOFTMAX: u32 = 13;
 
-const LOUDNESS: usize = 14;
+const LOUDNESS: u32 = 14;
 
 // Which function a word names.
-pub fn named(word: &[u8]) -> usize {
-    words::place(word, &NAMES)
+pub fn named(word: &[u8]) -> u32 {
+    words::place(word, &NAMES) as u32
 }
 
-pub fn say_names() {
-    say(&NAMES);
+pub fn say_names(rt: &impl Print) {
+    say(rt, &NAMES);
 }
 
 // A wave, or else the logarithm, at x.
-fn wave(function: usize, x: f32, out: &mut u32) -> u32 {
+fn wave(function: u32, x: f32, out: &mut u32) -> u32 {
     if function == SINPI {
         earmath::ear_sinpi(x, out)
     } else if function == COSPI {
@@ -63,7 +62,7 @@ fn wave(function: usize, x: f32, out: &mut u32) -> u32 {
 }
 
 // A function of one argument, at x.
-fn at(function: usize, x: f32, out: &mut u32) -> u32 {
+fn at(function: u32, x: f32, out: &mut u32) -> u32 {
     if function == SQRT {
         earmath::ear_sqrt(x, out)
     } else if function == RSQRT {
@@ -78,54 +77,54 @@ fn at(function: usize, x: f32, out: &mut u32) -> u32 {
 }
 
 // A refusal by its name, of one value or of several.
-fn refusal(code: u32) {
+fn refusal(rt: &impl Print, code: u32) {
     if code == 1 {
-        say(b"OUT_OF_RANGE");
+        say(rt, b"OUT_OF_RANGE");
     } else {
-        refusal_of_several(code);
+        refusal_of_several(rt, code);
     }
 }
 
-fn refusal_of_several(code: u32) {
+fn refusal_of_several(rt: &impl Print, code: u32) {
     if code == 2 {
-        say(b"BAD_LENGTH");
+        say(rt, b"BAD_LENGTH");
     } else if code == 3 {
-        say(b"OVERFLOW");
+        say(rt, b"OVERFLOW");
     } else {
-        say(b"BAD_CHANNEL");
+        say(rt, b"BAD_CHANNEL");
     }
 }
 
 // A result or a refusal.
-fn answer(code: u32, bits: u32) {
+fn answer(rt: &impl Print, code: u32, bits: u32) {
     if code == 0 {
-        io::print_hex(STDOUT_FILENO, bits as u64, 8);
+        let _ = print!(rt; "{bits:08x}");
     } else {
-        refusal(code);
+        refusal(rt, code);
     }
 }
 
 // A blank before every answer but the first.
-fn apart(i: usize) {
+fn apart(rt: &impl Print, i: usize) {
     if 0 < i {
-        say(b" ");
+        say(rt, b" ");
     }
 }
 
 // A function of one argument, at each of the floats.
-fn each(function: usize, floats: &[f32]) {
+fn each(rt: &impl Print, function: u32, floats: &[f32]) {
     let mut i = 0;
     while i < floats.len() {
         let mut r = 0;
         let code = at(function, floats[i], &mut r);
-        apart(i);
-        answer(code, r);
+        apart(rt, i);
+        answer(rt, code, r);
         i += 1;
     }
 }
 
 // A dot product, as the float nearest to the exact sum or not.
-fn dot_of(function: usize, a: &[f32], b: &[f32], out: &mut u32) -> u32 {
+fn dot_of(function: u32, a: &[f32], b: &[f32], out: &mut u32) -> u32 {
     if function == DOT {
         earmath::ear_dot(a, b, out)
     } else {
@@ -134,25 +133,25 @@ fn dot_of(function: usize, a: &[f32], b: &[f32], out: &mut u32) -> u32 {
 }
 
 // The dot product of the first half with the second.
-fn dot(function: usize, floats: &[f32]) {
+fn dot(rt: &impl Print, function: u32, floats: &[f32]) {
     let half = floats.len() / 2;
     let mut r = 0;
     let code = dot_of(function, &floats[0..half], &floats[half..], &mut r);
-    answer(code, r);
+    answer(rt, code, r);
 }
 
 // Results, each as an answer.
-fn list(results: &[u32]) {
+fn list(rt: &impl Print, results: &[u32]) {
     let mut i = 0;
     while i < results.len() {
-        apart(i);
-        answer(0, results[i]);
+        apart(rt, i);
+        answer(rt, 0, results[i]);
         i += 1;
     }
 }
 
 // The weights of the floats, base two or e.
-fn weights_of(function: usize, floats: &[f32], weights: &mut [u32]) -> u32 {
+fn weights_of(function: u32, floats: &[f32], weights: &mut [u32]) -> u32 {
     if function == SOFTMAX {
         earmath::ear_softmax(floats, weights)
     } else {
@@ -161,65 +160,65 @@ fn weights_of(function: usize, floats: &[f32], weights: &mut [u32]) -> u32 {
 }
 
 // The weight of each of the floats among all of them, or one refusal.
-fn weigh(function: usize, floats: &[f32], weights: &mut [u32]) {
+fn weigh(rt: &impl Print, function: u32, floats: &[f32], weights: &mut [u32]) {
     let code = weights_of(function, floats, weights);
     if code == 0 {
-        list(weights);
+        list(rt, weights);
     } else {
-        refusal(code);
+        refusal(rt, code);
     }
 }
 
-fn softmax(function: usize, floats: &[f32]) {
+fn softmax(rt: &impl Print, function: u32, floats: &[f32]) {
     let mut weights = [0; 2048];
     let n = floats.len();
     if n <= 2048 {
-        weigh(function, floats, &mut weights[0..n]);
+        weigh(rt, function, floats, &mut weights[0..n]);
     }
 }
 
 // The step of the float at i, by the channel b, m, T, C.
-fn step(floats: &[f32], i: usize)
+fn step(rt: &impl Print, floats: &[f32], i: usize)
     requires { (4 ≤ i) × (i < length floats.now) }
 {
     let t = fixed::bits_of(floats[2]);
     let c = fixed::bits_of(floats[3]);
     let mut r = 0;
     let code = earmath::ear_loudness(floats[0], floats[1], t, c, floats[i], &mut r);
-    answer(code, r);
+    answer(rt, code, r);
 }
 
 // A step for each of the floats behind the channel.
-fn steps(floats: &[f32])
+fn steps(rt: &impl Print, floats: &[f32])
     requires { 4 ≤ length floats.now }
 {
     let mut i = 4;
     while i < floats.len() {
-        apart(i - 4);
-        step(floats, i);
+        apart(rt, i - 4);
+        step(rt, floats, i);
         i += 1;
     }
 }
 
 // The channel, then envelope values.
-fn loudness(floats: &[f32]) {
+fn loudness(rt: &impl Print, floats: &[f32]) {
     if floats.len() < 5 {
-        say(b"earmath: loudness takes b m T C and then one or more values");
+        say(rt, b"earmath: loudness takes b m T C and then one or more values");
     } else {
-        steps(floats);
+        steps(rt, floats);
     }
 }
 
 // Answers, in one line.
-pub fn apply(function: usize, floats: &[f32]) {
+pub fn apply(rt: &impl Print, function: u32, floats: &[f32]) {
     if function == DOT || function == DOT_NEAREST {
-        dot(function, floats);
+        dot(rt, function, floats);
     } else if function == SOFTMAX2 || function == SOFTMAX {
-        softmax(function, floats);
+        softmax(rt, function, floats);
     } else if function == LOUDNESS {
-        loudness(floats);
+        loudness(rt, floats);
     } else {
-        each(function, floats);
+        each(rt, function, floats);
     }
-    say(b"\n");
+    say(rt, b"\n");
 }

@@ -2,13 +2,12 @@
 
 ghost use Rattle.std.specs.Prelude.{◌≤◌, length};
 
-use libc::STDOUT_FILENO;
-
 // What a word is that is no bit pattern.
 pub const NOT_A_PATTERN: u64 = 0x1_0000_0000;
 
-pub fn say(text: &[u8]) {
-    io::write_all(STDOUT_FILENO, text);
+// What cannot be written is lost, as it is on a terminal that was closed.
+pub fn say(rt: &impl Print, text: &[u8]) {
+    let _ = rt.write_all(text);
 }
 
 fn is_blank(b: u8) -> bool {
@@ -31,13 +30,15 @@ pub fn find(line: &[u8], at: usize, blank: bool) -> usize
 }
 
 // The place of a word, from 1 on, among those of a line; 0 if it is not there.
-pub fn place(word: &[u8], line: &[u8]) -> usize {
+pub fn place(word: &[u8], line: &[u8]) -> usize
+    ensures { result ≤ length line.now }
+{
     let mut n = 0;
     let mut a = find(line, 0, false);
     while a < line.len() {
         let e = find(line, a + 1, true);
         n += 1;
-        if check::same(word, &line[a..e]) {
+        if *word == line[a..e] {
             return n;
         }
         a = find(line, e, false);
