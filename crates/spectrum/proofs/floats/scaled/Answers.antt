@@ -20,7 +20,7 @@ shifted-requires c =
     (omega (arith, c.if-b-lt8388608.true), omega arith, subst (λ (n : ℕ). n < 2 ^ c.args.e) (low-size c.args.b c.if-b-lt8388608.true) c.requires.0, c.requires.1)
 
 pub returns-then-b-lt8388608 : goal.returns-then-b-lt8388608
-returns-then-b-lt8388608 c =c.shifted.ensures ∙ ap (λ (n : ℕ). n * 2 ^ 53 / 2 ^ c.args.e) (sym (low-size c.args.b c.if-b-lt8388608.true))
+returns-then-b-lt8388608 c = c.shifted.ensures ∙ ap (λ (n : ℕ). n * 2 ^ 53 / 2 ^ c.args.e) (sym (low-size c.args.b c.if-b-lt8388608.true))
 
 pub shifted-requires-2 : goal.shifted-requires-2
 unfolding place_in
@@ -28,4 +28,4 @@ shifted-requires-2 c =
     (omega arith, place-most c.args.b c.args.e c.if-b-lt8388608.false c.requires.0, subst (λ (n : ℕ). n < 2 ^ c.args.e) (high-size c.args.b c.if-b-lt8388608.false) c.requires.0, c.requires.1)
 
 pub returns : goal.returns
-returns c =c.shifted-2.ensures ∙ ap (λ (n : ℕ). n * 2 ^ 53 / 2 ^ c.args.e) (sym (high-size c.args.b c.if-b-lt8388608.false))
+returns c = c.shifted-2.ensures ∙ ap (λ (n : ℕ). n * 2 ^ 53 / 2 ^ c.args.e) (sym (high-size c.args.b c.if-b-lt8388608.false))

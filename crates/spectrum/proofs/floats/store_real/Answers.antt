@@ -14,7 +14,7 @@ pub loop-k-init : goal.loop-k-init
 loop-k-init c = (omega arith, refl, below_none _)
 
 pub bits-requires : goal.bits-requires
-bits-requires c =(c.requires.2 _ (omega (arith, c.loop-k-test.true)), c.requires.3)
+bits-requires c = (c.requires.2 _ (omega (arith, c.loop-k-test.true)), c.requires.3)
 
 -- there is a place for each word
 in-output : (c : In-loop-k) → c.loop-k.k < length c.loop-k.re
@@ -37,4 +37,4 @@ pub shape_of-re : goal.shape_of-re
 shape_of-re c = c.loop-k.invariant.1
 
 pub returns : goal.returns
-returns c =record { as_many = c.loop-k.invariant.1 ∙ c.requires.1; each = λ i h. c.loop-k.invariant.2 i (omega (arith, c.loop-k-test.false)) }
+returns c = record { as_many = c.loop-k.invariant.1 ∙ c.requires.1; each = λ i h. c.loop-k.invariant.2 i (omega (arith, c.loop-k-test.false)) }

@@ -142,4 +142,4 @@ returns-in-30 c = arm 30 c.args.j (omega arith)
 
 pub returns-in_default : goal.returns-in_default
 unfolding turn_of entry
-returns-in_default c = arm 31 c.args.j (le_antisymm (le_of_suc-le-suc c.requires.1) (beyond 30 c.args.j c.requires.0 c.in_default.rest))
+returns-in_default c = arm 31 c.args.j (omega arith)
