@@ -1,10 +1,9 @@
 -- `spectrum::floats::bits` meets its contract. Assumes nothing.
-use mathlib.Core.Path.{◌≡◌, refl, sym, ap, ◌∙◌}
-use Prim.Native.Nat.{ℕ, ◌+◌, ◌-◌}
+use mathlib.Core.Path.{refl, sym, ap, ◌∙◌}
+use Prim.Native.Nat.{ℕ, ◌+◌}
 use borrow.Author.Tests.{lt-ltb, le-ltb, eq-eqb, ne_eqb}
 use Rattle.spectrum.specs.Table.{unit}
-use Rattle.spectrum.specs.Floats.{size_bits_of, bits_of}
-use borrow.Author.Rules.{rules}
+use Rattle.spectrum.specs.Floats.{bits_of}
 use Rattle.spectrum.proofs.floats.bits.Goals as goal
 
 pub returns-then-b-eq0 : goal.returns-then-b-eq0

@@ -1,11 +1,10 @@
 -- `spectrum::floats::largest` meets its contract. The loop's invariant: m is the largest of the patterns passed. Assumes nothing.
 use native.Mathlib.Omega.{arith}
-use mathlib.Core.Path.{◌≡◌, sym, ap, ◌∙◌, subst}
-use mathlib.Core.Logic.{⊎_elim}
+use mathlib.Core.Path.{◌≡◌, ap, subst}
 use native.Mathlib.Nat.{le_antisymm}
 use borrow.Author.Rules.{scaled_Fits}
 use Rattle.spectrum.proofs.Loads.{largest-none, largest_new, largest_old}
-use Prim.Native.Nat.{ℕ, ◌+◌, ◌-◌, ◌%◌, ◌≤◌}
+use Prim.Native.Nat.{ℕ, ◌+◌, ◌%◌}
 use lib.ListN.{length}
 use Rattle.spectrum.specs.Transform.{at}
 use Rattle.spectrum.specs.Floats.{size_bits, Largest}
@@ -28,13 +27,13 @@ loop-i-preserved c =
       omega (arith, c.loop-i-test.true),
       elim c.if-m-b.branch [
         | then-m-b w ↦
-          let e : size_bits (at xs c.loop-i.i) ≡ c.if-m-b.m = omega (arith, b) in
-          subst (Largest xs (c.loop-i.i + 1)) e
-          (largest_new xs c.loop-i.i c.loop-i.m c.loop-i.invariant.1 (omega (arith, b)))
+            let e : size_bits (at xs c.loop-i.i) ≡ c.if-m-b.m = omega (arith, b) in
+            subst (Largest xs (c.loop-i.i + 1)) e
+            (largest_new xs c.loop-i.i c.loop-i.m c.loop-i.invariant.1 (omega (arith, b)))
         | else-m-b w ↦
-          let e : c.loop-i.m ≡ c.if-m-b.m = omega arith in
-          subst (Largest xs (c.loop-i.i + 1)) e
-          (largest_old xs c.loop-i.i c.loop-i.m c.loop-i.invariant.1 (omega (arith, b)))
+            let e : c.loop-i.m ≡ c.if-m-b.m = omega arith in
+            subst (Largest xs (c.loop-i.i + 1)) e
+            (largest_old xs c.loop-i.i c.loop-i.m c.loop-i.invariant.1 (omega (arith, b)))
       ],
     )
 

@@ -1,6 +1,6 @@
 -- `spectrum::floats::load` meets its contract. Assumes nothing.
 use mathlib.Core.Path.{◌≡◌, sym, ap, ◌∙◌, subst}
-use Prim.Native.Nat.{ℕ, ◌+◌, ◌-◌, ◌*◌, ◌/◌, ◌%◌, ◌^◌, ◌≤◌, ◌<◌}
+use Prim.Native.Nat.{ℕ, ◌+◌, ◌-◌, ◌*◌, ◌/◌, ◌%◌, ◌^◌, ◌<◌}
 use native.Mathlib.Omega.{arith}
 use Rattle.std.specs.Float.{binary32}
 use Rattle.std.specs.Float.Ieee.{Float, to_bits}
@@ -9,7 +9,6 @@ use Rattle.spectrum.specs.Table.{unit}
 use Rattle.spectrum.specs.Floats.{size_in}
 use Rattle.spectrum.proofs.Sizes.{size_of}
 use Rattle.spectrum.proofs.Loads.{quotient_small, word-plus, word-minus}
-use borrow.Author.Rules.{rules}
 use Rattle.spectrum.proofs.floats.load.Goals.{After-scaled-y}
 use Rattle.spectrum.proofs.floats.load.Goals as goal
 
@@ -39,7 +38,11 @@ pub overflow_sub-result : goal.overflow_sub-result
 overflow_sub-result c = omega (arith, least (goal.at.overflow_sub-result c).After-scaled-y)
 
 pub returns-then-b-lt2147483648 : goal.returns-then-b-lt2147483648
-returns-then-b-lt2147483648 c = ap (λ (n : ℕ). unit + n) (units (goal.at.returns-then-b-lt2147483648 c).After-scaled-y) ∙ word-plus c.args.x c.requires.0 c.args.e (rw c.number_bits-b.ensures at c.if-b-lt2147483648.true)
+returns-then-b-lt2147483648 c =
+    ap (λ (n : ℕ). unit + n) (units (goal.at.returns-then-b-lt2147483648 c).After-scaled-y)
+    ∙ word-plus c.args.x c.requires.0 c.args.e (rw c.number_bits-b.ensures at c.if-b-lt2147483648.true)
 
 pub returns-else-b-lt2147483648 : goal.returns-else-b-lt2147483648
-returns-else-b-lt2147483648 c = ap (λ (n : ℕ). unit - n) (units (goal.at.returns-else-b-lt2147483648 c).After-scaled-y) ∙ word-minus c.args.x c.requires.0 c.args.e (rw c.number_bits-b.ensures at c.if-b-lt2147483648.false)
+returns-else-b-lt2147483648 c =
+    ap (λ (n : ℕ). unit - n) (units (goal.at.returns-else-b-lt2147483648 c).After-scaled-y)
+    ∙ word-minus c.args.x c.requires.0 c.args.e (rw c.number_bits-b.ensures at c.if-b-lt2147483648.false)

@@ -5,7 +5,6 @@ use native.Mathlib.Omega.{arith}
 use Rattle.spectrum.specs.Floats.{place_in, size_in}
 use Rattle.spectrum.proofs.Sizes.{low-digits, low-place, high-digits}
 use Rattle.spectrum.proofs.Loads.{place-most}
-use borrow.Author.Rules.{rules}
 use Rattle.spectrum.proofs.floats.scaled.Goals as goal
 
 low-size : (b : ℕ) → b < 8388608 → size_in b ≡ b * 2 ^ 0

@@ -1,8 +1,6 @@
 -- `spectrum::floats::shifted` meets its contract: each return is a law of the shift. Assumes nothing.
 use native.Mathlib.Omega.{arith}
-use lib.Pow.{pow_mono}
 use Rattle.spectrum.proofs.Sizes.{shifted_left, shifted_right, shifted_out}
-use borrow.Author.Rules.{rules}
 use Rattle.spectrum.proofs.floats.shifted.Goals as goal
 
 pub returns-then-e-p : goal.returns-then-e-p

@@ -1,12 +1,11 @@
 -- `spectrum::words::butterfly` meets its contract: the two parts of the product stay near 2 ^ 62, so that every sum and difference fits. Assumes nothing.
-use borrow.Author.Rules.{rules}
-use mathlib.Core.Path.{◌≡◌, refl, sym, ◌∙◌, ap, ap₂}
+use mathlib.Core.Path.{◌≡◌, ◌∙◌, ap}
 use Prim.Native.Nat.{ℕ, ◌+◌, ◌-◌, ◌*◌, ◌≤◌, ◌<◌}
 use native.Mathlib.Omega.{arith}
 use Rattle.spectrum.specs.Table.{unit, entry}
 use Rattle.spectrum.specs.Words.{part, Butterfly}
 use Rattle.spectrum.proofs.Parts.{Product, made}
-use Rattle.spectrum.proofs.Entries.{Row, row, entry-most}
+use Rattle.spectrum.proofs.Entries.{row, entry-most}
 use Rattle.spectrum.proofs.Room.{Twice, real-room, imaginary-room, taken_away, one-room}
 use Rattle.spectrum.proofs.words.butterfly.Goals.{After-part-2, After-part-3, After-part-4}
 use Rattle.spectrum.proofs.words.butterfly.Goals as goal
@@ -74,7 +73,7 @@ enough c =
       arith,
       (row (omega arith) c.row-w.ensures).other,
       taken_away (entry c.args.j) (entry (32 - c.args.j)) c.args.or c.args.oi (cosine-most c.args.j c.requires.1)
-      (sine-most c.args.j) c.requires.4 c.requires.5 _ _ (third-kept c) (last c),
+          (sine-most c.args.j) c.requires.4 c.requires.5 _ _ (third-kept c) (last c),
     )
 
 pub overflow_sub-u : goal.overflow_sub-u

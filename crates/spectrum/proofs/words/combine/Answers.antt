@@ -1,9 +1,8 @@
 -- `spectrum::words::combine` meets its contract. The loop's invariant: the butterflies below k are done. Assumes nothing.
 use mathlib.Core.Path.{◌≡◌, refl, sym, ◌∙◌, subst}
-use Prim.Native.Nat.{ℕ, ◌+◌, ◌-◌, ◌*◌, ◌≤◌, ◌<◌}
+use Prim.Native.Nat.{ℕ, ◌+◌, ◌-◌, ◌*◌}
 use native.Mathlib.Nat.{le_antisymm}
 use native.Mathlib.Omega.{arith}
-use borrow.Author.Rules.{rules}
 use lib.ListN.{length, get_or}
 use Rattle.spectrum.specs.Words.{Inside}
 use Rattle.spectrum.proofs.Combining.{Going, start, step, kept, finish}
@@ -42,13 +41,12 @@ pub loop-k-smaller : goal.loop-k-smaller
 loop-k-smaller c = omega (arith, c.loop-k-test.true)
 
 pub loop-k-preserved : goal.loop-k-preserved
-loop-k-preserved c =
-    (
-      omega arith,
-      omega (arith, c.loop-k-test.true),
-      c.wing.auto.r ∙ c.loop-k.invariant.2,
-      step c.args.g c.args.st c.loop-k.k _ (λ i. get_or c.loop-k.r i 0) _ c.loop-k.invariant.0 c.loop-k-test.true c.loop-k.invariant.3 c.wing.ensures,
-    )
+loop-k-preserved c = (
+  omega arith,
+  omega (arith, c.loop-k-test.true),
+  c.wing.auto.r ∙ c.loop-k.invariant.2,
+  step c.args.g c.args.st c.loop-k.k _ (λ i. get_or c.loop-k.r i 0) _ c.loop-k.invariant.0 c.loop-k-test.true c.loop-k.invariant.3 c.wing.ensures,
+)
 
 pub shape_of-r : goal.shape_of-r
 shape_of-r c = c.loop-k.invariant.2 ∙ c.straight.auto.r

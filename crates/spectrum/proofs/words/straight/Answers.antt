@@ -1,11 +1,7 @@
 -- `spectrum::words::straight` meets its contract. Assumes nothing.
-use Prim.Native.Nat.{ℕ, ◌*◌, ◌<◌}
-use lib.ListN.{get_or}
-use Rattle.spectrum.specs.Words.{Inside}
+use Prim.Native.Nat.{◌*◌}
 use Rattle.spectrum.proofs.Stores.{straight, straight_in, straight_in_2}
 use native.Mathlib.Omega.{arith}
-use borrow.Author.Rules.{rules}
-use borrow.Author.Rules.{rules}
 use Rattle.spectrum.proofs.words.straight.Goals as goal
 
 -- The words that are read are inside: `c.requires.2` at each index.

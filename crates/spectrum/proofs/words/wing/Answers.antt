@@ -5,7 +5,6 @@ use native.Mathlib.Nat.{mul-lt-mul_of_pos_right, mul-le-mul}
 use Rattle.spectrum.proofs.Blocks.{quarter-most}
 use Rattle.spectrum.proofs.Stores.{winged, wing_in, wing_in_2, wing_in_3}
 use native.Mathlib.Omega.{arith}
-use borrow.Author.Rules.{rules}
 use Rattle.spectrum.proofs.words.wing.Goals as goal
 
 -- the turn is less than a quarter
