@@ -1,14 +1,13 @@
 -- The two halves of a block, and what the recursion is given and gives.
 use mathlib.Core.Path.{◌≡◌, refl, sym, ap, ap₂, ◌∙◌, subst}
 use mathlib.Core.Logic.{inl, inr}
-use mathlib.Core.Bool.{Bool}
 use mathlib.Core.List.{List, [], ◌∷◌, ◌++◌}
 use Prim.Native.Nat.{ℕ, zero, suc, ◌+◌, ◌-◌, ◌*◌, ◌/◌, ◌^◌, ◌≤◌, ◌<◌}
 use native.Mathlib.Nat.{pow-suc, le_of_suc-le-suc, not-suc-le-zero, mul-le-mul_left, mul-le-mul_right, le_trans}
 use native.Mathlib.Omega.{arith}
 use lib.Dec.{T, leb, leb→le}
-use lib.Pow.{pow_pos, pow-lt, pow_mono}
-use lib.ListN.{length, get_or, take, drop, length-append, length-drop, get_or-eq_default, get_or-append}
+use lib.Pow.{pow_pos, pow_mono}
+use lib.ListN.{length, get_or, take, drop, length-drop, get_or-eq_default, get_or-append}
 use lib.Seq.{length_front, length-take-le, get_or-take, get_or-append-add}
 use borrow.Rule.Slice.PartMut.{mid_of, put_mid, same_len_mid}
 use Rattle.units.proofs.Naturals.{le-or-lt}
@@ -17,7 +16,6 @@ use Rattle.spectrum.specs.Words.{value_of, Inside, Small, Four, Combined, Filled
 use Rattle.spectrum.proofs.Tests.{all, at}
 use Rattle.spectrum.proofs.Differences as D
 use Rattle.spectrum.proofs.Combining.{moved}
-use Rattle.spectrum.proofs.Stage.{Transformed}
 use Rattle.spectrum.proofs.Filling.{loss, filled, sizes}
 
 -- ---- a list whose first h words and whose others were lent and came back as l₁ and l₂

@@ -2,10 +2,10 @@
 use mathlib.Core.Path.{◌≡◌, refl, sym, ◌∙◌, ap}
 use mathlib.Core.Logic.{inl, inr}
 use Prim.Native.Nat.{ℕ, ◌+◌, ◌-◌, ◌*◌, ◌≤◌, ◌<◌}
-use native.Mathlib.Nat.{eq-or-lt_of_le, le_of_suc-le-suc}
+use native.Mathlib.Nat.{eq-or-lt_of_le}
 use native.Mathlib.Omega.{arith}
 use Rattle.spectrum.specs.Table.{unit}
-use Rattle.spectrum.specs.Words.{Inside, Butterfly, Winged, Straight, Combined}
+use Rattle.spectrum.specs.Words.{Butterfly, Winged, Straight, Combined}
 
 -- a butterfly's words may be given by equal ones
 pub moved : {j er ei or oi a b e d er' ei' or' oi' a' b' e''' d' : ℕ} → Butterfly j er ei or oi a b e d → er' ≡ er → ei' ≡ ei → or' ≡ or → oi' ≡ oi → a' ≡ a → b' ≡ b → e''' ≡ e → d' ≡ d

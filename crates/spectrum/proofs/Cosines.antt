@@ -1,6 +1,6 @@
 -- The table's numbers are the cosines and sines of the real angles: computed partial sums of 47 terms at our own digits of pi / 2, one test over all angles, and from there
 -- to every enclosure of pi / 2. Assumes nothing.
-use mathlib.Core.Path.{◌≡◌, sym, ap, subst}
+use mathlib.Core.Path.{◌≡◌, sym, subst}
 use mathlib.Core.Logic.{inl, inr}
 use mathlib.Core.Bool.{Bool}
 use Prim.Native.Nat.{ℕ, suc, ◌+◌, ◌-◌, ◌*◌, ◌^◌, ◌≤◌, ◌<◌}
@@ -10,7 +10,7 @@ use lib.Dec.{T, leb, leb→le, lit<, lit≤}
 use lib.Pow.{pow_pos}
 use Rattle.units.proofs.Naturals.{le-or-lt}
 use Rattle.exact.specs.Series.{partial, denominator, fourth, LimitNear}
-use Rattle.exact.specs.Circle.{Cosine, Sine, QuarterTurn, signed, bound}
+use Rattle.exact.specs.Circle.{QuarterTurn}
 use Rattle.exact.proofs.Series.{over_pos, partial_grows, partial_tail, fourth-most}
 use Rattle.exact.proofs.Limits.{Both, both_wider, cosine_of_lem, sine-plus}
 use Rattle.exact.specs.Circle.{quarter, quarter_unit}

@@ -1,18 +1,14 @@
 -- From the bound of each output to the sum of all squared errors: the largest value is at most 256 times the largest outputs, so that its part of the bound is nothing beside them. Assumes nothing.
-use mathlib.Core.Path.{◌≡◌, refl, sym, ap, ap₂, ◌∙◌, subst}
+use mathlib.Core.Path.{◌≡◌, refl, ap}
 use mathlib.Core.Logic.{inl, inr, ◌⊎◌}
-use mathlib.Core.List.{List}
-use Prim.Native.Nat.{ℕ, zero, suc, ◌+◌, ◌-◌, ◌*◌, ◌%◌, ◌^◌, ◌≤◌, ◌<◌, zero-le}
+use Prim.Native.Nat.{ℕ, zero, suc, ◌+◌, ◌-◌, ◌*◌, ◌^◌, ◌≤◌, ◌<◌, zero-le}
 use native.Mathlib.Nat.{le_trans, le_of_eq, mul-le-mul, mul-le-mul_left, mul-le-mul_right, le_of_mul-le-mul_left}
 use native.Mathlib.Omega.{arith}
 use lib.Dec.{lit<, lit≤}
 use lib.Pow.{pow_pos}
-use lib.Ieee.{Float}
-use Rattle.units.specs.Units.{mag, P, N}
 use Rattle.units.proofs.Naturals.{le-or-lt}
-use Rattle.units.proofs.Signs.{size-sum}
-use Rattle.spectrum.specs.Difference.{Difference, whole, opposite, times, total, apart, size}
-use Rattle.spectrum.specs.Table.{unit, cosine_below, sine_below, cosine, sine}
+use Rattle.spectrum.specs.Difference.{Difference, whole, times, size}
+use Rattle.spectrum.specs.Table.{unit, cosine, sine}
 use Rattle.spectrum.specs.Transform.{sum_of, square}
 use Rattle.spectrum.proofs.Differences.{Close, length, close_sym, close_trans, close_weaken, total_close, total-times}
 use Rattle.spectrum.proofs.Halving.{plain}

@@ -1,17 +1,17 @@
 -- From the words of a block to the exact sums: what loading cuts off, what the stages lose, and what the table differs from the real cosines and sines. Assumes nothing.
-use mathlib.Core.Path.{◌≡◌, refl, sym, ap, ap₂, ◌∙◌, subst}
+use mathlib.Core.Path.{◌≡◌, refl, ap, ◌∙◌}
 use mathlib.Core.Logic.{inl, inr, ◌⊎◌}
 use mathlib.Core.Bool.{Bool, true, false, cond}
 use mathlib.Core.List.{List}
 use Prim.Native.Nat.{ℕ, zero, suc, ◌+◌, ◌-◌, ◌*◌, ◌/◌, ◌%◌, ◌^◌, ◌≤◌, ◌<◌, zero-le}
-use native.Mathlib.Nat.{le_trans, le_of_eq, mul-one, zero-add, zero-mul, mul-le-mul_left, mul-le-mul_right, div-mul-le_self, lt-div-mul-add, le_of_mul-le-mul_left}
+use native.Mathlib.Nat.{le_trans, mul-one, zero-mul, mul-le-mul_right, div-mul-le_self, lt-div-mul-add, le_of_mul-le-mul_left}
 use native.Mathlib.Omega.{arith}
 use lib.Pow.{pow_pos}
 use lib.ListN.{get_or}
 use lib.Ieee.{Float}
 use Rattle.units.specs.Units.{mag, negative}
 use Rattle.units.proofs.Naturals.{le-or-lt}
-use Rattle.spectrum.specs.Difference.{Difference, whole, opposite, add, times, total, apart}
+use Rattle.spectrum.specs.Difference.{Difference, whole, times, total, apart}
 use Rattle.spectrum.specs.Table.{unit, entry, cosine_below, sine_below, cosine, sine}
 use Rattle.spectrum.specs.Words.{value_of}
 use Rattle.spectrum.specs.Transform.{units_of, turned_total, Turns}

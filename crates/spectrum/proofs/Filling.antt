@@ -1,5 +1,5 @@
 -- A block that is filled holds the transform of its values: stage by stage from blocks of four, which are exact.
-use mathlib.Core.Path.{◌≡◌, refl, sym, ap, ap₂, ◌∙◌, subst}
+use mathlib.Core.Path.{◌≡◌, sym, ap, subst}
 use mathlib.Core.Logic.{inl, inr}
 use Prim.Native.Nat.{ℕ, zero, suc, ◌+◌, ◌-◌, ◌*◌, ◌/◌, ◌^◌, ◌≤◌, ◌<◌}
 use native.Mathlib.Nat.{add-zero, eq-or-lt_of_le, le_of_mul-le-mul_right, le_trans}
@@ -8,8 +8,8 @@ use lib.Pow.{pow_pos}
 use Rattle.units.proofs.Naturals.{le-or-lt}
 use Rattle.spectrum.specs.Difference.{Difference, whole, opposite, add, times, total}
 use Rattle.spectrum.specs.Table.{unit, entry, cosine_below, sine_below, cosine, sine}
-use Rattle.spectrum.specs.Words.{value_of, Inside, Four, Filled, four, halves}
-use Rattle.spectrum.proofs.Differences.{Close, length, close_weaken, total-length, times-length}
+use Rattle.spectrum.specs.Words.{value_of, Four, Filled, four, halves}
+use Rattle.spectrum.proofs.Differences.{Close, length, total-length, times-length}
 use Rattle.spectrum.proofs.Turning.{cosine-length, sine-length}
 use Rattle.spectrum.proofs.Halving.{plain}
 use Rattle.spectrum.proofs.Rotated.{Value}

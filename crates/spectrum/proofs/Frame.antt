@@ -1,10 +1,10 @@
 -- A frame that is accepted: its words are small, its block holds its transform, and its outputs are near the exact sums. Assumes nothing.
-use mathlib.Core.Path.{◌≡◌, refl, sym, ap, ap₂, ◌∙◌, subst}
+use mathlib.Core.Path.{◌≡◌, refl, sym, ap, ◌∙◌, subst}
 use mathlib.Core.Logic.{inl, inr, ◌⊎◌}
 use mathlib.Core.Bool.{Bool, true, false, cond}
 use mathlib.Core.List.{List}
-use Prim.Native.Nat.{ℕ, zero, suc, ◌+◌, ◌-◌, ◌*◌, ◌/◌, ◌%◌, ◌^◌, ◌≤◌, ◌<◌, zero-le}
-use native.Mathlib.Nat.{le_trans, le_of_eq, lt_of_le_of_lt, lt_of_lt_of_le, eq-zero-or-pos, mul_assoc, mul_comm, mul-le-mul, mul-le-mul_left, mul-le-mul_right, le_of_mul-le-mul_left, le_of_mul-le-mul_right, lt_of_mul-lt-mul_right, div-mul-le_self, zero-div, mul-one, mul-zero, zero-add}
+use Prim.Native.Nat.{ℕ, ◌+◌, ◌-◌, ◌*◌, ◌/◌, ◌%◌, ◌^◌, ◌≤◌, ◌<◌, zero-le}
+use native.Mathlib.Nat.{le_trans, le_of_eq, lt_of_le_of_lt, lt_of_lt_of_le, eq-zero-or-pos, mul_assoc, mul-le-mul, mul-le-mul_left, mul-le-mul_right, le_of_mul-le-mul_left, le_of_mul-le-mul_right, lt_of_mul-lt-mul_right, div-mul-le_self, zero-div, mul-one, mul-zero, zero-add}
 use native.Mathlib.Omega.{arith}
 use lib.Pow.{pow-add, pow_pos, pow_mono}
 use lib.ListN.{length, get_or, get_or-eq_default}
@@ -17,9 +17,9 @@ use Rattle.units.proofs.Signs.{size-sum, one_sided as one-sided'}
 use Rattle.units.proofs.Patterns.{finite-below}
 use Rattle.spectrum.specs.Difference.{Difference, whole, opposite, times, total, apart, size}
 use Rattle.spectrum.specs.Table.{unit, cosine_below, sine_below, cosine, sine}
-use Rattle.spectrum.specs.Words.{value_of, Small, Fillable, FilledWith}
-use Rattle.spectrum.specs.Transform.{at, Element, Elements, units_of, turned_total, turned_sum, Turns, Covers, NearOutput, exact_re, exact_im}
-use Rattle.spectrum.specs.Floats.{digits_in, place_in, size_in, size_bits, Largest, Scale, word_of, Loaded, Holdable, bits_of, StoredReal, StoredImaginary}
+use Rattle.spectrum.specs.Words.{value_of, Small, FilledWith}
+use Rattle.spectrum.specs.Transform.{at, Element, units_of, turned_total, turned_sum, Turns, Covers, NearOutput, exact_re, exact_im}
+use Rattle.spectrum.specs.Floats.{digits_in, place_in, size_in, size_bits, Largest, Scale, word_of, Loaded, Holdable, bits_of}
 use Rattle.spectrum.proofs.Differences as D
 use Rattle.spectrum.proofs.Differences.{Close, total-same, total-length}
 use Rattle.spectrum.proofs.Halving.{plain}
@@ -28,7 +28,6 @@ use Rattle.spectrum.proofs.Stage.{Transformed}
 use Rattle.spectrum.proofs.Filling.{loss, filled, sizes}
 use Rattle.spectrum.proofs.Blocks.{within}
 use Rattle.spectrum.proofs.Sizes.{size_of, size_mono}
-use Rattle.spectrum.proofs.Loads.{quotient_small}
 use Rattle.spectrum.proofs.Cosines.{table_cosine, table_sine}
 use Rattle.spectrum.proofs.Exact.{loaded-near, real-sum, imaginary-sum, table_near, end_sum, near_output}
 use Rattle.spectrum.proofs.Energy.{largest_by}

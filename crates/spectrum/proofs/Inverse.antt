@@ -1,9 +1,9 @@
 -- The transform of numbers that are not all small is not all small: halving undone, level by level, down to the values asTheyAre. Assumes nothing.
-use mathlib.Core.Path.{◌≡◌, refl, sym, ap, ◌∙◌, subst}
+use mathlib.Core.Path.{◌≡◌, refl, ap, ◌∙◌, subst}
 use mathlib.Core.Logic.{inl, inr, ◌⊎◌}
 use mathlib.Core.Bool.{Bool}
 use Prim.Native.Nat.{ℕ, zero, suc, ◌+◌, ◌-◌, ◌*◌, ◌/◌, ◌%◌, ◌^◌, ◌≤◌, ◌<◌, zero-le}
-use native.Mathlib.Nat.{pow-suc, le_trans, mul-pos, mul-le-mul, mul-le-mul_left, mul-le-mul_right, le_of_mul-le-mul_left, zero-mul}
+use native.Mathlib.Nat.{pow-suc, le_trans, mul-pos, mul-le-mul_left, mul-le-mul_right, zero-mul}
 use native.Mathlib.Omega.{arith}
 use lib.Dec.{T, leb, leb→le}
 use lib.Pow.{pow_pos}
@@ -12,7 +12,7 @@ use Rattle.spectrum.specs.Difference.{Difference, whole, opposite, add, times, t
 use Rattle.spectrum.specs.Table.{unit, entry, cosine_below, cosine, sine}
 use Rattle.spectrum.proofs.Tests.{all, at}
 use Rattle.spectrum.proofs.Entries.{entries_most}
-use Rattle.spectrum.proofs.Differences.{Close, length, close_sym, close_trans, close_weaken, close_add, close_times, close_by, close_unscale, swapped, distributed, total-length, times-length}
+use Rattle.spectrum.proofs.Differences.{Close, length, close_sym, close_trans, close_weaken, close_add, close_times, close_unscale, total-length, times-length}
 use Rattle.spectrum.proofs.Turning.{cosine-length, sine-length}
 use Rattle.spectrum.proofs.Halving.{plain, odd, split, even-cosine, even-sine, odd_cosine, odd_sine, turned-cosine, turned-sine}
 

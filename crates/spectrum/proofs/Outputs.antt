@@ -1,21 +1,18 @@
 -- A word's value as a float: n units of 2 ^ (e - 53) are rounded to 24 digits, or to a whole unit of 2 ^ -149. Assumes nothing.
-use mathlib.Core.Path.{◌≡◌, refl, sym, ap, ap₂, ◌∙◌, subst}
+use mathlib.Core.Path.{◌≡◌, refl, sym, ap, ◌∙◌, subst}
 use mathlib.Core.Logic.{inl, inr}
-use mathlib.Core.Bool.{Bool, true, false, not, cond}
-use Prim.Native.Nat.{ℕ, suc, ◌+◌, ◌-◌, ◌*◌, ◌/◌, ◌%◌, ◌^◌, ◌≤◌, ◌<◌, zero-le}
-use native.Mathlib.Nat.{le_trans, le_of_eq, lt_of_le_of_lt, lt_of_lt_of_le, eq-zero-or-pos, mul_assoc, mul_comm, zero-mul, zero-add, add_comm, mul-one, mul-le-mul_left, mul-le-mul_right, mul-lt-mul_of_pos_right, lt_of_mul-lt-mul_right, div-lt_iff_lt-mul, div-mul-le_self, lt-div-mul-add, mod-eq_of_lt, div-le_self, not-le_of_lt}
+use mathlib.Core.Bool.{Bool}
+use Prim.Native.Nat.{ℕ, ◌+◌, ◌-◌, ◌*◌, ◌/◌, ◌^◌, ◌≤◌, ◌<◌}
+use native.Mathlib.Nat.{le_trans, le_of_eq, lt_of_le_of_lt, lt_of_lt_of_le, eq-zero-or-pos, mul_assoc, zero-mul, zero-add, mul-le-mul_left, mul-le-mul_right, mul-lt-mul_of_pos_right, lt_of_mul-lt-mul_right, div-lt_iff_lt-mul, div-mul-le_self, lt-div-mul-add}
 use native.Mathlib.Omega.{arith}
-use lib.Pow.{pow-add, pow_pos, pow_mono, pow-lt}
+use lib.Pow.{pow-add, pow_pos, pow_mono}
 use lib.Count.{count_leading_zeros, leading_le, leading_length}
-use lib.Dec.{T, leb, ltb, eqb}
-use borrow.Author.Tests.{lt-ltb, le-ltb, le-leb, lt-leb, eq-eqb, ne_eqb}
-use lib.Ieee.{Float, binary32, to_bits, of_bits, nan_bits}
-use Rattle.units.specs.Units.{mag, negative, P, N, Number}
+use borrow.Author.Tests.{lt-ltb, le-ltb, le-leb, lt-leb}
+use lib.Ieee.{binary32, of_bits}
 use Rattle.units.proofs.Naturals.{le-or-lt, pow_back_lt}
-use Rattle.units.proofs.Bits.{Is, sign_bit, put, no_nan, no_nan_positive}
-use Rattle.units.proofs.Patterns.{pattern_back}
+use Rattle.units.proofs.Bits.{Is, sign_bit, put}
 use Rattle.fixed.specs.Rounded.{Normal, nearest_bits}
-use Rattle.fixed.proofs.Rounding.{units_of, placed, near-most, near-least, is_units, is_positive, bits_fit, zero_bits, zero_units}
+use Rattle.fixed.proofs.Rounding.{units_of, placed, near-most, near-least, is_units, bits_fit, zero_bits, zero_units}
 use Rattle.spectrum.specs.Floats.{half_up, size_bits_of}
 
 -- ---- what the tests say of n

@@ -3,17 +3,17 @@ use mathlib.Core.Path.{◌≡◌, refl, sym, ap, ap₂, ◌∙◌, subst}
 use mathlib.Core.Logic.{inl, inr, ◌⊎◌}
 use mathlib.Core.List.{List, [], ◌∷◌, map}
 use Prim.Native.Nat.{ℕ, zero, suc, ◌+◌, ◌-◌, ◌*◌, ◌^◌, ◌≤◌, ◌<◌}
-use native.Mathlib.Nat.{not-suc-le-zero, le_of_suc-le-suc, le_trans, eq-or-lt_of_le}
+use native.Mathlib.Nat.{not-suc-le-zero, le_of_suc-le-suc, eq-or-lt_of_le}
 use native.Mathlib.Omega.{arith}
 use lib.ListN.{length, get_or}
-use lib.Ieee.{Float, nan, binary32, of_bits, to_bits}
+use lib.Ieee.{Float, binary32, of_bits, to_bits}
 use Rattle.units.specs.Units.{mag, Number}
 use Rattle.units.specs.Answers.{Ends, float_bits, list_bits}
 use Rattle.units.proofs.Answers.{written, untouched}
 use Rattle.spectrum.specs.Difference.{Difference, whole, size}
 use Rattle.spectrum.specs.Words.{value_of, FilledWith}
 use Rattle.spectrum.specs.Transform.{at, Lengths, Element, Elements, Accepts, Turns, Covers, NearOutput, exact_re, exact_im, error_of, sum_of, square, Transform, both_bits}
-use Rattle.spectrum.specs.Floats.{size_in, size_bits, Largest, Scale, Loaded, bits_of, StoredReal, StoredImaginary, IsTransform}
+use Rattle.spectrum.specs.Floats.{size_in, Largest, Scale, Loaded, StoredReal, StoredImaginary, IsTransform}
 use Rattle.spectrum.proofs.Written.{Output, output, zero_output}
 use Rattle.spectrum.proofs.Energy.{energy}
 use Rattle.spectrum.proofs.Frame.{holdable, covered, largest_output, real-near, imaginary-near, end_near, element_below}

@@ -1,7 +1,7 @@
 -- A butterfly's turned words against a turned sum, over any unit u.
-use mathlib.Core.Path.{◌≡◌, refl, sym, ap, ◌∙◌}
-use Prim.Native.Nat.{ℕ, ◌+◌, ◌-◌, ◌*◌, ◌≤◌, ◌<◌}
-use native.Mathlib.Nat.{mul-le-mul_left, mul-le-mul_right}
+use mathlib.Core.Path.{◌≡◌, ap}
+use Prim.Native.Nat.{ℕ, ◌+◌, ◌*◌, ◌≤◌, ◌<◌}
+use native.Mathlib.Nat.{mul-le-mul_right}
 use native.Mathlib.Omega.{arith}
 use Rattle.spectrum.specs.Difference.{Difference, whole, opposite, add, times}
 use Rattle.spectrum.proofs.Differences.{Close, length, close_sym, close_trans, close_weaken, close_add, close_times, close_unscale, swapped, distributed}

@@ -1,18 +1,16 @@
 -- The size that a pattern stands for, how many digits it has, and what is left of it in units of a frame.
-use mathlib.Core.Path.{◌≡◌, refl, sym, ap, ap₂, ◌∙◌, subst}
+use mathlib.Core.Path.{◌≡◌, refl, sym, ap, ap₂, ◌∙◌}
 use mathlib.Core.Logic.{inl, inr}
-use mathlib.Core.Bool.{Bool, true, false, cond}
 use Prim.Native.Nat.{ℕ, suc, ◌+◌, ◌-◌, ◌*◌, ◌/◌, ◌%◌, ◌^◌, ◌≤◌, ◌<◌}
-use native.Mathlib.Nat.{le_trans, le_of_eq, lt_of_le_of_lt, lt_of_lt_of_le, mul_assoc, mul_comm, mul-one, zero-mul, pow-suc, eq-zero-or-pos, mul-le-mul_right, mul-lt-mul_of_pos_right, lt_of_mul-lt-mul_right, div-eq_of_lt, mul-div_cancel, mul-div-mul_right, mod-eq_of_lt}
+use native.Mathlib.Nat.{le_trans, le_of_eq, lt_of_le_of_lt, lt_of_lt_of_le, mul_assoc, mul_comm, mul-one, pow-suc, eq-zero-or-pos, mul-le-mul_right, mul-lt-mul_of_pos_right, lt_of_mul-lt-mul_right, div-eq_of_lt, mul-div_cancel, mul-div-mul_right, mod-eq_of_lt}
 use native.Mathlib.Omega.{arith}
 use lib.Pow.{pow-add, pow_pos, pow_mono}
 use lib.Count.{count_leading_zeros, leading_of_zero, leading_top}
-use lib.Dec.{ltb}
 use borrow.Author.Tests.{lt-ltb, le-ltb}
-use lib.Ieee.{Float, binary32, to_bits}
-use Rattle.units.specs.Units.{mag, negative, Number}
+use lib.Ieee.{Float}
+use Rattle.units.specs.Units.{mag, Number}
 use Rattle.units.proofs.Naturals.{le-or-lt}
-use Rattle.units.proofs.Patterns.{Shape, packed, packed_le, Packed, packed_of}
+use Rattle.units.proofs.Patterns.{Shape, packed, packed_le, packed_of}
 use Rattle.spectrum.specs.Floats.{digits_in, place_in, size_in, size_bits, Scale}
 
 -- ---- digits and places

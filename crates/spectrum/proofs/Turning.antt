@@ -1,12 +1,10 @@
 -- What the table's numbers have in common with cosines and sines: the addition theorem within 2 units, and the turns by a half. Computed tests.
-use mathlib.Core.Path.{◌≡◌, refl, sym, ap, ap₂, ◌∙◌, subst}
-use mathlib.Core.Bool.{Bool, true, cond, ◌&&◌}
+use mathlib.Core.Path.{◌≡◌, subst}
+use mathlib.Core.Bool.{Bool, ◌&&◌}
 use Prim.Native.Nat.{ℕ, ◌+◌, ◌-◌, ◌*◌, ◌%◌, ◌≤◌, ◌<◌}
-use native.Mathlib.Nat.{mod-eq_of_lt}
 use native.Mathlib.Omega.{arith}
 use lib.Dec.{T, leb, leb→le}
 use lib.Ieee.Fits.{and_l, and_r}
-use borrow.Author.Tests.{le-leb}
 use Rattle.spectrum.specs.Difference.{Difference, whole, opposite, add, times}
 use Rattle.spectrum.specs.Table.{unit, entry, cosine_below, sine_below, cosine, sine}
 use Rattle.spectrum.proofs.Tests.{all, at}

@@ -8,7 +8,7 @@ use native.Mathlib.Omega.{arith}
 use lib.Dec.{T}
 use borrow.Author.Tests.{lt-ltb, le-ltb, eq-eqb, ne_eqb}
 use lib.Ieee.{Float, binary32, to_bits, of_bits, nan_bits}
-use Rattle.units.specs.Units.{mag, negative, P, N, Number}
+use Rattle.units.specs.Units.{mag, P, N, Number}
 use Rattle.units.proofs.Naturals.{le-or-lt}
 use Rattle.units.proofs.Bits.{Is, sign_bit, put, no_nan}
 use Rattle.units.proofs.Patterns.{pattern_back}

@@ -3,7 +3,7 @@ use Rattle.std.specs.Prelude.{◌≡◌, List, cond, ℕ, ◌+◌, ◌-◌, ◌*
 use Rattle.std.specs.Int.Count.{count_leading_zeros}
 use Rattle.std.specs.Float.{binary32}
 use Rattle.std.specs.Float.Ieee.{to_bits}
-use Rattle.units.specs.Units.{mag, negative, Number}
+use Rattle.units.specs.Units.{mag, negative}
 use Rattle.fixed.specs.Rounded.{nearest_bits}
 use Rattle.spectrum.specs.Elements.{at}
 use Rattle.spectrum.specs.Words.{FilledWith}

@@ -1,5 +1,5 @@
 -- What the program computes, as whole numbers: a value v is the word v + 2 ^ 61. A reader of the promise need not read this. Definitions only.
-use Rattle.std.specs.Prelude.{◌≡◌, List, [], ◌∷◌, ℕ, zero, suc, ◌+◌, ◌-◌, ◌*◌, ◌/◌, ◌%◌, ◌^◌, ◌≤◌, ◌<◌, length, get_or}
+use Rattle.std.specs.Prelude.{◌≡◌, List, [], ◌∷◌, ℕ, suc, ◌+◌, ◌-◌, ◌*◌, ◌/◌, ◌%◌, ◌^◌, ◌≤◌, ◌<◌, length, get_or}
 use Rattle.spectrum.specs.Difference.{Difference}
 use Rattle.spectrum.specs.Table.{unit, entry}
 

@@ -1,5 +1,7 @@
 // The transform of 128 floats: whole numbers inside, one rounding for each output.
 
+#![tactic(auto)]
+
 pub mod floats;
 mod turns;
 pub mod words;

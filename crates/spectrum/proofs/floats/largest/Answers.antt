@@ -1,14 +1,14 @@
 -- `spectrum::floats::largest` meets its contract. The loop's invariant: m is the largest of the patterns passed. Assumes nothing.
 use native.Mathlib.Omega.{arith}
-use mathlib.Core.Path.{◌≡◌, sym, ap, ◌∙◌, subst}
-use mathlib.Core.Logic.{⊎_elim}
+use mathlib.Core.Path.{◌≡◌, ap, subst}
 use native.Mathlib.Nat.{le_antisymm}
 use borrow.Author.Rules.{scaled_Fits}
 use Rattle.spectrum.proofs.Loads.{largest-none, largest_new, largest_old}
-use Prim.Native.Nat.{ℕ, ◌+◌, ◌-◌, ◌%◌, ◌≤◌}
+use Prim.Native.Nat.{ℕ, ◌+◌, ◌%◌}
 use lib.ListN.{length}
 use Rattle.spectrum.specs.Transform.{at}
 use Rattle.spectrum.specs.Floats.{size_bits, Largest}
+use Rattle.spectrum.proofs.floats.largest.Goals.{then-m-b, else-m-b}
 use Rattle.spectrum.proofs.floats.largest.Goals as goal
 
 pub loop-i-init : goal.loop-i-init
@@ -25,10 +25,16 @@ loop-i-preserved c =
     let xs = c.args.x.now in
     let b : c.bits_of-b.result % 2147483648 ≡ size_bits (at xs c.loop-i.i) = ap (λ (n : ℕ). n % 2147483648) c.bits_of-b.ensures in (
       omega (arith, c.loop-i-test.true),
-      ⊎_elim
-          (λ w. let e : size_bits (at xs c.loop-i.i) ≡ c.if-m-b.m = omega (arith, b) in subst (Largest xs (c.loop-i.i + 1)) e (largest_new xs c.loop-i.i c.loop-i.m c.loop-i.invariant.1 (omega (arith, b))))
-          (λ w. let e : c.loop-i.m ≡ c.if-m-b.m = omega arith in subst (Largest xs (c.loop-i.i + 1)) e (largest_old xs c.loop-i.i c.loop-i.m c.loop-i.invariant.1 (omega (arith, b))))
-          c.if-m-b.branch,
+      elim c.if-m-b.branch [
+        | then-m-b w ↦
+            let e : size_bits (at xs c.loop-i.i) ≡ c.if-m-b.m = omega (arith, b) in
+            subst (Largest xs (c.loop-i.i + 1)) e
+            (largest_new xs c.loop-i.i c.loop-i.m c.loop-i.invariant.1 (omega (arith, b)))
+        | else-m-b w ↦
+            let e : c.loop-i.m ≡ c.if-m-b.m = omega arith in
+            subst (Largest xs (c.loop-i.i + 1)) e
+            (largest_old xs c.loop-i.i c.loop-i.m c.loop-i.invariant.1 (omega (arith, b)))
+      ],
     )
 
 pub returns : goal.returns

@@ -1,31 +1,35 @@
 -- `spectrum::floats::load` meets its contract. Assumes nothing.
 use mathlib.Core.Path.{◌≡◌, sym, ap, ◌∙◌, subst}
-use Prim.Native.Nat.{ℕ, ◌+◌, ◌-◌, ◌*◌, ◌/◌, ◌%◌, ◌^◌, ◌≤◌, ◌<◌}
+use Prim.Native.Nat.{ℕ, ◌+◌, ◌-◌, ◌*◌, ◌/◌, ◌%◌, ◌^◌, ◌<◌}
 use native.Mathlib.Omega.{arith}
-use Rattle.units.specs.Units.{mag}
+use Rattle.std.specs.Float.{binary32}
+use Rattle.std.specs.Float.Ieee.{Float, to_bits}
+use Rattle.units.specs.Units.{mag, Number}
 use Rattle.spectrum.specs.Table.{unit}
 use Rattle.spectrum.specs.Floats.{size_in}
 use Rattle.spectrum.proofs.Sizes.{size_of}
 use Rattle.spectrum.proofs.Loads.{quotient_small, word-plus, word-minus}
-use borrow.Author.Rules.{rules}
-use Rattle.spectrum.proofs.floats.load.Goals.{After-number_bits-b, After-scaled-y}
+use Rattle.spectrum.proofs.floats.load.Goals.{After-scaled-y}
 use Rattle.spectrum.proofs.floats.load.Goals as goal
 
 pub number_bits-b-requires : goal.number_bits-b-requires
 number_bits-b-requires c = c.requires.0
 
-same : (c : After-number_bits-b) → mag c.args.x ≡ size_in (c.number_bits-b.result % 2147483648)
-same c = size_of c.args.x c.requires.0 ∙ ap (λ (n : ℕ). size_in (n % 2147483648)) (sym c.number_bits-b.ensures)
+same : (x : Float) (b : ℕ) → Number x → b ≡ to_bits binary32 x → mag x ≡ size_in (b % 2147483648)
+same x b n e = size_of x n ∙ ap (λ (n : ℕ). size_in (n % 2147483648)) (sym e)
 
--- CHECK helper same at After-number_bits-b
 units : (c : After-scaled-y) → c.scaled-y.result ≡ mag c.args.x * 2 ^ 53 / 2 ^ c.args.e
-units c = c.scaled-y.ensures ∙ ap (λ (n : ℕ). n * 2 ^ 53 / 2 ^ c.args.e) (sym (same c))
+units c =
+    c.scaled-y.ensures
+    ∙ ap (λ (n : ℕ). n * 2 ^ 53 / 2 ^ c.args.e) (sym (same c.args.x c.number_bits-b.result c.requires.0 c.number_bits-b.ensures))
 
 least : (c : After-scaled-y) → c.scaled-y.result < 2 ^ 53
 least c = rw (units c) (quotient_small (mag c.args.x) c.args.e c.requires.1)
 
 pub scaled-y-requires : goal.scaled-y-requires
-scaled-y-requires c =(subst (λ (n : ℕ). n < 2 ^ c.args.e) (same (goal.at.scaled-y-requires c).After-number_bits-b) c.requires.1, c.requires.2, omega arith)
+scaled-y-requires c =
+    let e = same c.args.x c.number_bits-b.result c.requires.0 c.number_bits-b.ensures in
+    (subst (λ (n : ℕ). n < 2 ^ c.args.e) e c.requires.1, c.requires.2, omega arith)
 
 pub overflow_add-result : goal.overflow_add-result
 overflow_add-result c = omega (arith, least (goal.at.overflow_add-result c).After-scaled-y)
@@ -34,7 +38,11 @@ pub overflow_sub-result : goal.overflow_sub-result
 overflow_sub-result c = omega (arith, least (goal.at.overflow_sub-result c).After-scaled-y)
 
 pub returns-then-b-lt2147483648 : goal.returns-then-b-lt2147483648
-returns-then-b-lt2147483648 c =ap (λ (n : ℕ). unit + n) (units (goal.at.returns-then-b-lt2147483648 c).After-scaled-y) ∙ word-plus c.args.x c.requires.0 c.args.e (rw c.number_bits-b.ensures at c.if-b-lt2147483648.true)
+returns-then-b-lt2147483648 c =
+    ap (λ (n : ℕ). unit + n) (units (goal.at.returns-then-b-lt2147483648 c).After-scaled-y)
+    ∙ word-plus c.args.x c.requires.0 c.args.e (rw c.number_bits-b.ensures at c.if-b-lt2147483648.true)
 
 pub returns-else-b-lt2147483648 : goal.returns-else-b-lt2147483648
-returns-else-b-lt2147483648 c =ap (λ (n : ℕ). unit - n) (units (goal.at.returns-else-b-lt2147483648 c).After-scaled-y) ∙ word-minus c.args.x c.requires.0 c.args.e (rw c.number_bits-b.ensures at c.if-b-lt2147483648.false)
+returns-else-b-lt2147483648 c =
+    ap (λ (n : ℕ). unit - n) (units (goal.at.returns-else-b-lt2147483648 c).After-scaled-y)
+    ∙ word-minus c.args.x c.requires.0 c.args.e (rw c.number_bits-b.ensures at c.if-b-lt2147483648.false)

@@ -5,7 +5,7 @@ use native.Mathlib.Nat.{ne_of_lt}
 use lib.Seq.{get_or-set_same, get_or-set_other}
 use borrow.Author.Count.{below_none, below_more}
 use borrow.Author.Rules.{scaled_Fits}
-use Prim.Native.Nat.{ℕ, ◌+◌, ◌-◌, ◌≤◌, ◌<◌}
+use Prim.Native.Nat.{◌<◌}
 use lib.ListN.{length, get_or, set, length-set}
 use Rattle.spectrum.specs.Transform.{at}
 use Rattle.spectrum.specs.Floats.{word_of}
@@ -22,7 +22,7 @@ pub bounds-x-i : goal.bounds-x-i
 bounds-x-i c = c.loop-i-test.true
 
 pub load-requires : goal.load-requires
-load-requires c =let w = c.requires.2 c.loop-i.i (omega (arith, c.loop-i-test.true)) in (w.0, w.1, c.requires.3)
+load-requires c = let w = c.requires.2 c.loop-i.i (omega (arith, c.loop-i-test.true)) in (w.0, w.1, c.requires.3)
 
 -- there is a place for each float
 in-output : (c : In-loop-i) → c.loop-i.i < length c.loop-i.y
@@ -48,4 +48,4 @@ pub shape_of-y : goal.shape_of-y
 shape_of-y c = c.loop-i.invariant.1
 
 pub returns : goal.returns
-returns c =record { as_many = c.loop-i.invariant.1 ∙ c.requires.1; each = λ i h. c.loop-i.invariant.2 i (omega (arith, c.loop-i-test.false)) }
+returns c = record { as_many = c.loop-i.invariant.1 ∙ c.requires.1; each = λ i h. c.loop-i.invariant.2 i (omega (arith, c.loop-i-test.false)) }

@@ -1,12 +1,7 @@
 -- `spectrum::floats::load_all` meets its contract. The loop's invariant: the words written are those of the floats passed. Assumes nothing.
-use native.Mathlib.Omega.{arith}
-use mathlib.Core.Path.{◌≡◌, refl, ◌∙◌}
-use native.Mathlib.Nat.{ne_of_lt}
-use lib.Seq.{get_or-set_same, get_or-set_other}
-use borrow.Author.Count.{below_none, below_more}
-use borrow.Author.Rules.{scaled_Fits}
-use Prim.Native.Nat.{ℕ, ◌+◌, ◌-◌, ◌≤◌, ◌<◌}
-use lib.ListN.{length, get_or, set, length-set}
+use mathlib.Core.Path.{◌≡◌}
+use Prim.Native.Nat.{ℕ, ◌-◌, ◌≤◌, ◌<◌}
+use lib.ListN.{length, get_or}
 use Rattle.spectrum.specs.Transform.{at}
 use Rattle.spectrum.specs.Floats.{word_of}
 use Rattle.spectrum.proofs.floats.load_all.Given as goal

@@ -1,5 +1,4 @@
 -- `spectrum::floats::number_bits` meets its contract. Assumes nothing.
-use borrow.Author.Rules.{rules}
 use Rattle.spectrum.proofs.Loads.{no_nan}
 use Rattle.spectrum.proofs.floats.number_bits.Goals as goal
 

@@ -1,8 +1,6 @@
 -- `spectrum::floats::scale` meets its contract. Assumes nothing.
-use native.Mathlib.Omega.{arith}
 use lib.Count.{leading_le}
 use Rattle.spectrum.proofs.Sizes.{low-scale, high-scale}
-use borrow.Author.Rules.{rules}
 use Rattle.spectrum.proofs.floats.scale.Goals as goal
 
 pub overflow_sub-result : goal.overflow_sub-result

@@ -5,7 +5,6 @@ use native.Mathlib.Omega.{arith}
 use Rattle.spectrum.specs.Floats.{place_in, size_in}
 use Rattle.spectrum.proofs.Sizes.{low-digits, low-place, high-digits}
 use Rattle.spectrum.proofs.Loads.{place-most}
-use borrow.Author.Rules.{rules}
 use Rattle.spectrum.proofs.floats.scaled.Goals as goal
 
 low-size : (b : ℕ) → b < 8388608 → size_in b ≡ b * 2 ^ 0
@@ -20,7 +19,7 @@ shifted-requires c =
     (omega (arith, c.if-b-lt8388608.true), omega arith, subst (λ (n : ℕ). n < 2 ^ c.args.e) (low-size c.args.b c.if-b-lt8388608.true) c.requires.0, c.requires.1)
 
 pub returns-then-b-lt8388608 : goal.returns-then-b-lt8388608
-returns-then-b-lt8388608 c =c.shifted.ensures ∙ ap (λ (n : ℕ). n * 2 ^ 53 / 2 ^ c.args.e) (sym (low-size c.args.b c.if-b-lt8388608.true))
+returns-then-b-lt8388608 c = c.shifted.ensures ∙ ap (λ (n : ℕ). n * 2 ^ 53 / 2 ^ c.args.e) (sym (low-size c.args.b c.if-b-lt8388608.true))
 
 pub shifted-requires-2 : goal.shifted-requires-2
 unfolding place_in
@@ -28,4 +27,4 @@ shifted-requires-2 c =
     (omega arith, place-most c.args.b c.args.e c.if-b-lt8388608.false c.requires.0, subst (λ (n : ℕ). n < 2 ^ c.args.e) (high-size c.args.b c.if-b-lt8388608.false) c.requires.0, c.requires.1)
 
 pub returns : goal.returns
-returns c =c.shifted-2.ensures ∙ ap (λ (n : ℕ). n * 2 ^ 53 / 2 ^ c.args.e) (sym (high-size c.args.b c.if-b-lt8388608.false))
+returns c = c.shifted-2.ensures ∙ ap (λ (n : ℕ). n * 2 ^ 53 / 2 ^ c.args.e) (sym (high-size c.args.b c.if-b-lt8388608.false))

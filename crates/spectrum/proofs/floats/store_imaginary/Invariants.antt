@@ -1,11 +1,7 @@
 -- `spectrum::floats::store_imaginary` meets its contract. The loop's invariant: the patterns written are those of the words passed, and both ends are zero. Assumes nothing.
-use mathlib.Core.Path.{◌≡◌, refl, sym, ◌∙◌, subst}
-use mathlib.Core.Logic.{inl, inr}
-use Prim.Native.Nat.{ℕ, ◌+◌, ◌-◌, ◌≤◌, ◌<◌}
-use native.Mathlib.Nat.{ne_of_lt, eq-or-lt_of_le}
-use native.Mathlib.Omega.{arith}
-use lib.ListN.{length, get_or, set, length-set}
-use lib.Seq.{get_or-set_same, get_or-set_other, lt-length-set}
+use mathlib.Core.Path.{◌≡◌}
+use Prim.Native.Nat.{ℕ, ◌-◌, ◌≤◌, ◌<◌}
+use lib.ListN.{length, get_or}
 use Rattle.spectrum.specs.Floats.{bits_of}
 use Rattle.spectrum.proofs.floats.store_imaginary.Given as goal
 

@@ -1,10 +1,10 @@
 -- `spectrum::floats::store_real` meets its contract. The loop's invariant: the patterns written are those of the words passed. Assumes nothing.
 use mathlib.Core.Path.{◌≡◌, refl, ◌∙◌}
-use Prim.Native.Nat.{ℕ, ◌+◌, ◌-◌, ◌≤◌, ◌<◌}
+use Prim.Native.Nat.{◌<◌}
 use native.Mathlib.Nat.{ne_of_lt}
 use native.Mathlib.Omega.{arith}
 use lib.ListN.{length, get_or, set, length-set}
-use lib.Seq.{get_or-set_same, get_or-set_other, lt-length-set}
+use lib.Seq.{get_or-set_same, get_or-set_other}
 use borrow.Author.Count.{below_none, below_more}
 use Rattle.spectrum.specs.Floats.{bits_of}
 use Rattle.spectrum.proofs.floats.store_real.Goals.{In-loop-k}
@@ -14,7 +14,7 @@ pub loop-k-init : goal.loop-k-init
 loop-k-init c = (omega arith, refl, below_none _)
 
 pub bits-requires : goal.bits-requires
-bits-requires c =(c.requires.2 _ (omega (arith, c.loop-k-test.true)), c.requires.3)
+bits-requires c = (c.requires.2 _ (omega (arith, c.loop-k-test.true)), c.requires.3)
 
 -- there is a place for each word
 in-output : (c : In-loop-k) → c.loop-k.k < length c.loop-k.re
@@ -37,4 +37,4 @@ pub shape_of-re : goal.shape_of-re
 shape_of-re c = c.loop-k.invariant.1
 
 pub returns : goal.returns
-returns c =record { as_many = c.loop-k.invariant.1 ∙ c.requires.1; each = λ i h. c.loop-k.invariant.2 i (omega (arith, c.loop-k-test.false)) }
+returns c = record { as_many = c.loop-k.invariant.1 ∙ c.requires.1; each = λ i h. c.loop-k.invariant.2 i (omega (arith, c.loop-k-test.false)) }

@@ -1,11 +1,7 @@
 -- `spectrum::floats::store_real` meets its contract. The loop's invariant: the patterns written are those of the words passed. Assumes nothing.
-use mathlib.Core.Path.{◌≡◌, refl, ◌∙◌}
-use Prim.Native.Nat.{ℕ, ◌+◌, ◌-◌, ◌≤◌, ◌<◌}
-use native.Mathlib.Nat.{ne_of_lt}
-use native.Mathlib.Omega.{arith}
-use lib.ListN.{length, get_or, set, length-set}
-use lib.Seq.{get_or-set_same, get_or-set_other, lt-length-set}
-use borrow.Author.Count.{below_none, below_more}
+use mathlib.Core.Path.{◌≡◌}
+use Prim.Native.Nat.{ℕ, ◌-◌, ◌≤◌, ◌<◌}
+use lib.ListN.{length, get_or}
 use Rattle.spectrum.specs.Floats.{bits_of}
 use Rattle.spectrum.proofs.floats.store_real.Given as goal
 

@@ -1,21 +1,11 @@
--- `spectrum::turns::halves` meets its contract: each arm is the turn of its number. Assumes nothing.
+-- `spectrum::turns::halves` meets its contract: each arm is the turn of its number, and the last arm's is 31.
+-- Assumes nothing.
 use mathlib.Core.Path.{◌≡◌, sym, ap}
-use mathlib.Core.Logic.{inl, inr}
-use Prim.Native.Nat.{ℕ, zero, suc, ◌≤◌, ◌<◌}
-use native.Mathlib.Nat.{le_antisymm, eq-or-lt_of_le, le_of_suc-le-suc}
+use Prim.Native.Nat.{ℕ}
 use native.Mathlib.Omega.{arith}
 use Rattle.spectrum.specs.Table.{entry}
 use Rattle.spectrum.specs.Words.{turn_of}
 use Rattle.spectrum.proofs.turns.halves.Goals as goal
-
--- j is none of the numbers from 1 to k, as the last arm knows it
-abbrev None : ℕ → ℕ → Type 0
-None zero j = Unit {0}
-None (suc k) j = None k j × (j ≡ suc k → ⊥)
-
-beyond : (k j : ℕ) → 1 ≤ j → None k j → k < j
-beyond zero j l n = l
-beyond (suc k) j l (n, other) = elim (eq-or-lt_of_le (beyond k j l n)) [ inl e ↦ absurd (other (sym e)) | inr m ↦ m ]
 
 arm : (k j : ℕ) → j ≡ k → turn_of k ≡ turn_of j
 arm k j e = sym (ap turn_of e)
@@ -142,4 +132,4 @@ returns-in-30 c = arm 30 c.args.j (omega arith)
 
 pub returns-in_default : goal.returns-in_default
 unfolding turn_of entry
-returns-in_default c = arm 31 c.args.j (le_antisymm (le_of_suc-le-suc c.requires.1) (beyond 30 c.args.j c.requires.0 c.in_default.rest))
+returns-in_default c = arm 31 c.args.j (omega arith)

@@ -1,9 +1,8 @@
 -- `spectrum::turns::row` meets its contract: the offsets from the cosine and the sine. Assumes nothing.
-use mathlib.Core.Path.{◌≡◌, refl}
+use mathlib.Core.Path.{◌≡◌}
 use mathlib.Core.List.{[], ◌∷◌}
 use Prim.Native.Nat.{ℕ, ◌+◌, ◌-◌, ◌*◌, ◌/◌, ◌^◌}
 use native.Mathlib.Omega.{arith}
-use borrow.Author.Rules.{rules}
 use Rattle.spectrum.specs.Table.{entry}
 use Rattle.spectrum.specs.Words.{row_of, turn_of}
 use Rattle.spectrum.proofs.turns.row.Goals as goal

@@ -1,46 +1,43 @@
 -- `spectrum::words::butterfly` meets its contract: the two parts of the product stay near 2 ^ 62, so that every sum and difference fits. Assumes nothing.
-use borrow.Author.Rules.{rules}
-use mathlib.Core.Path.{◌≡◌, refl, sym, ◌∙◌, ap, ap₂}
+use mathlib.Core.Path.{◌≡◌, ◌∙◌, ap}
 use Prim.Native.Nat.{ℕ, ◌+◌, ◌-◌, ◌*◌, ◌≤◌, ◌<◌}
 use native.Mathlib.Omega.{arith}
 use Rattle.spectrum.specs.Table.{unit, entry}
 use Rattle.spectrum.specs.Words.{part, Butterfly}
 use Rattle.spectrum.proofs.Parts.{Product, made}
-use Rattle.spectrum.proofs.Entries.{Row, row, entry-most}
+use Rattle.spectrum.proofs.Entries.{row, entry-most}
 use Rattle.spectrum.proofs.Room.{Twice, real-room, imaginary-room, taken_away, one-room}
-use Rattle.spectrum.proofs.words.butterfly.Goals.{After-part, After-part-2, After-part-3, After-part-4, After-row-w}
+use Rattle.spectrum.proofs.words.butterfly.Goals.{After-part-2, After-part-3, After-part-4}
 use Rattle.spectrum.proofs.words.butterfly.Goals as goal
 
 -- the row, and the first two products
-numbers : (c : After-row-w) → Row c.args.j c.row-w.result.c c.row-w.result.s c.row-w.result.z c.row-w.result.y
-numbers c = row (omega arith) c.row-w.ensures
+first : (c : After-part-2) → Product c.args.or (entry c.args.j) c.part.result
+first c = made c.part.ensures (row (omega arith) c.row-w.ensures).cosine
 
--- CHECK helper numbers at After-row-w
-first : (c : After-part) → Product c.args.or (entry c.args.j) c.part.result
-first c = made c.part.ensures (numbers c).cosine
-
--- CHECK helper numbers at After-row-w
 second : (c : After-part-2) → Product c.args.oi (entry (32 - c.args.j)) c.part-2.result
-second c = made c.part-2.ensures (numbers c).sine
+second c = made c.part-2.ensures (row (omega arith) c.row-w.ensures).sine
 
-cosine-most : (c : After-row-w) → entry c.args.j ≤ unit
-cosine-most c = entry-most c.args.j (omega arith)
+cosine-most : (j : ℕ) → j < 32 → entry j ≤ unit
+cosine-most j l = entry-most j (omega arith)
 
-sine-most : (c : After-row-w) → entry (32 - c.args.j) ≤ unit
-sine-most c = entry-most (32 - c.args.j) (omega arith)
+sine-most : (j : ℕ) → entry (32 - j) ≤ unit
+sine-most j = entry-most (32 - j) (omega arith)
 
 pub overflow_add-t : goal.overflow_add-t
 overflow_add-t c =
-    omega (arith, one-room _ _ _ (cosine-most (goal.at.overflow_add-t c).After-row-w) c.requires.4 (first (goal.at.overflow_add-t c).After-part), one-room _ _ _ (sine-most (goal.at.overflow_add-t c).After-row-w) c.requires.5 (second (goal.at.overflow_add-t c).After-part-2))
+    let r = (goal.at.overflow_add-t c).After-part-2 in
+    omega (
+      arith,
+      one-room _ _ _ (cosine-most c.args.j c.requires.1) c.requires.4 (first r),
+      one-room _ _ _ (sine-most c.args.j) c.requires.5 (second r),
+    )
 
--- CHECK helper sine-most at After-row-w
--- CHECK helper cosine-most at After-row-w
--- CHECK helper first at After-part
--- CHECK helper numbers at After-row-w
 -- the real part of the product
 real : (c : After-part-2) → Twice (c.part.result + c.part-2.result + c.row-w.result.z)
 real c =
-    real-room (entry c.args.j) (entry (32 - c.args.j)) c.args.or c.args.oi (cosine-most c) (sine-most c) c.requires.4 c.requires.5 _ _ _ (first c) (second c) (sums _ _ _ _ (numbers c).both)
+    real-room (entry c.args.j) (entry (32 - c.args.j)) c.args.or c.args.oi (cosine-most c.args.j c.requires.1)
+    (sine-most c.args.j) c.requires.4 c.requires.5 _ _ _ (first c) (second c)
+    (sums _ _ _ _ (row (omega arith) c.row-w.ensures).both)
   where
     sums : (p q z x : ℕ) → z + x ≡ 2 * unit → p + q + z + x ≡ p + q + 2 * unit
     sums p q z x e = omega arith
@@ -48,35 +45,45 @@ real c =
 pub overflow_add-t-2 : goal.overflow_add-t-2
 overflow_add-t-2 c = omega (arith, (real (goal.at.overflow_add-t-2 c).After-part-2).most)
 
--- CHECK helper numbers at After-row-w
 -- the other two products, and the imaginary part
 third : (c : After-part-3) → Product c.args.oi (entry c.args.j) c.part-3.result
-third c = made c.part-3.ensures (numbers c).cosine
-
--- CHECK helper numbers at After-row-w
-last : (c : After-part-4) → Product c.args.or (entry (32 - c.args.j)) c.part-4.result
-last c = made c.part-4.ensures (numbers c).sine
+third c = made c.part-3.ensures (row (omega arith) c.row-w.ensures).cosine
 
 pub overflow_add-u : goal.overflow_add-u
 overflow_add-u c =
-    omega (arith, one-room _ _ _ (cosine-most (goal.at.overflow_add-u c).After-row-w) c.requires.5 (third (goal.at.overflow_add-u c).After-part-3), (numbers (goal.at.overflow_add-u c).After-row-w).other, cosine-most (goal.at.overflow_add-u c).After-row-w, sine-most (goal.at.overflow_add-u c).After-row-w)
-
-pub overflow_sub-u : goal.overflow_sub-u
-overflow_sub-u c =
     omega (
       arith,
-      (numbers (goal.at.overflow_sub-u c).After-row-w).other,
-      taken_away (entry c.args.j) (entry (32 - c.args.j)) c.args.or c.args.oi (cosine-most (goal.at.overflow_sub-u c).After-row-w) (sine-most (goal.at.overflow_sub-u c).After-row-w) c.requires.4 c.requires.5 _ _ (third (goal.at.overflow_sub-u c).After-part-3) (last (goal.at.overflow_sub-u c).After-part-4),
+      one-room _ _ _ (cosine-most c.args.j c.requires.1) c.requires.5 (third (goal.at.overflow_add-u c).After-part-3),
+      (row (omega arith) c.row-w.ensures).other,
+      cosine-most c.args.j c.requires.1,
+      sine-most c.args.j,
     )
 
--- CHECK helper third at After-part-3
--- CHECK helper sine-most at After-row-w
--- CHECK helper cosine-most at After-row-w
--- CHECK helper numbers at After-row-w
+-- the third again, behind the fourth
+third-kept : (c : After-part-4) → Product c.args.oi (entry c.args.j) c.part-3.result
+third-kept c = made c.part-3.ensures (row (omega arith) c.row-w.ensures).cosine
+
+last : (c : After-part-4) → Product c.args.or (entry (32 - c.args.j)) c.part-4.result
+last c = made c.part-4.ensures (row (omega arith) c.row-w.ensures).sine
+
+-- the difference in u does not go below zero
+enough : (c : After-part-4) → c.part-4.result ≤ c.part-3.result + c.row-w.result.y
+enough c =
+    omega (
+      arith,
+      (row (omega arith) c.row-w.ensures).other,
+      taken_away (entry c.args.j) (entry (32 - c.args.j)) c.args.or c.args.oi (cosine-most c.args.j c.requires.1)
+          (sine-most c.args.j) c.requires.4 c.requires.5 _ _ (third-kept c) (last c),
+    )
+
+pub overflow_sub-u : goal.overflow_sub-u
+overflow_sub-u c = enough (goal.at.overflow_sub-u c).After-part-4
+
 imaginary : (c : After-part-4) → Twice (c.part-3.result + c.row-w.result.y - c.part-4.result)
 imaginary c =
-    imaginary-room (entry c.args.j) (entry (32 - c.args.j)) c.args.or c.args.oi (cosine-most c) (sine-most c) c.requires.4 c.requires.5 _ _ _ (third c) (last c)
-    (sums _ _ _ _ _ (sub-u c) (numbers c).other)
+    imaginary-room (entry c.args.j) (entry (32 - c.args.j)) c.args.or c.args.oi (cosine-most c.args.j c.requires.1)
+    (sine-most c.args.j) c.requires.4 c.requires.5 _ _ _ (third-kept c) (last c)
+    (sums _ _ _ _ _ (enough c) (row (omega arith) c.row-w.ensures).other)
   where
     sums : (p q y a b : ℕ) → q ≤ p + y → y + a ≡ b → p + y - q + (q + a) ≡ p + b
     sums p q y a b l e = omega arith
@@ -116,6 +123,10 @@ wings j er ei or oi p q p' q' z y c s ec es ep eq ep' eq' both other h1 h2 h3 h4
 
 pub returns : goal.returns
 returns c =
-    let n = numbers (goal.at.returns c).After-row-w in
-    wings c.args.j c.args.er c.args.ei c.args.or c.args.oi _ _ _ _ _ _ _ _ n.cosine n.sine c.part.ensures c.part-2.ensures c.part-3.ensures c.part-4.ensures
-    n.both n.other (sub-t10 c) (sub-t12 c) (sub-u c) (sub-t13 c) (sub-t15 c)
+    let n = row (omega arith) c.row-w.ensures in
+    let r = real (goal.at.returns c).After-part-2 in
+    let m = imaginary (goal.at.returns c).After-part-4 in
+    wings c.args.j c.args.er c.args.ei c.args.or c.args.oi _ _ _ _ _ _ _ _ n.cosine n.sine c.part.ensures c.part-2.ensures
+    c.part-3.ensures c.part-4.ensures n.both n.other (omega (arith, r.least, c.requires.2.least))
+    (omega (arith, r.most, c.requires.2.least)) (enough (goal.at.returns c).After-part-4)
+    (omega (arith, m.least, c.requires.3.most)) (omega (arith, m.least, c.requires.3.least))

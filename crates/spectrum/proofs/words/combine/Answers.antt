@@ -1,9 +1,8 @@
 -- `spectrum::words::combine` meets its contract. The loop's invariant: the butterflies below k are done. Assumes nothing.
 use mathlib.Core.Path.{◌≡◌, refl, sym, ◌∙◌, subst}
-use Prim.Native.Nat.{ℕ, ◌+◌, ◌-◌, ◌*◌, ◌≤◌, ◌<◌}
+use Prim.Native.Nat.{ℕ, ◌+◌, ◌-◌, ◌*◌}
 use native.Mathlib.Nat.{le_antisymm}
 use native.Mathlib.Omega.{arith}
-use borrow.Author.Rules.{rules}
 use lib.ListN.{length, get_or}
 use Rattle.spectrum.specs.Words.{Inside}
 use Rattle.spectrum.proofs.Combining.{Going, start, step, kept, finish}
@@ -11,14 +10,14 @@ use Rattle.spectrum.proofs.words.combine.Goals.{At-loop-k}
 use Rattle.spectrum.proofs.words.combine.Goals as goal
 
 pub straight-requires : goal.straight-requires
-straight-requires c =(c.requires.0, c.requires.2, c.requires.3)
+straight-requires c = (c.requires.0, c.requires.2, c.requires.3)
 
 pub loop-k-init : goal.loop-k-init
-loop-k-init c =(omega arith, c.requires.0, refl, start c.args.g c.args.st _)
+loop-k-init c = (omega arith, c.requires.0, refl, start c.args.g c.args.st _)
 
 -- what is known at the loop's head
 same-as-given : (c : At-loop-k) → length c.loop-k.r ≡ 4 * c.args.g
-same-as-given c = c.loop-k.invariant.2 ∙ c.straight.auto.0 ∙ c.requires.2
+same-as-given c = c.loop-k.invariant.2 ∙ c.straight.auto.r ∙ c.requires.2
 
 pub wing-requires : goal.wing-requires
 wing-requires c =
@@ -42,19 +41,18 @@ pub loop-k-smaller : goal.loop-k-smaller
 loop-k-smaller c = omega (arith, c.loop-k-test.true)
 
 pub loop-k-preserved : goal.loop-k-preserved
-loop-k-preserved c =
-    (
-      omega arith,
-      omega (arith, c.loop-k-test.true),
-      c.wing.auto.0 ∙ c.loop-k.invariant.2,
-      step c.args.g c.args.st c.loop-k.k _ (λ i. get_or c.loop-k.r i 0) _ c.loop-k.invariant.0 c.loop-k-test.true c.loop-k.invariant.3 c.wing.ensures,
-    )
+loop-k-preserved c = (
+  omega arith,
+  omega (arith, c.loop-k-test.true),
+  c.wing.auto.r ∙ c.loop-k.invariant.2,
+  step c.args.g c.args.st c.loop-k.k _ (λ i. get_or c.loop-k.r i 0) _ c.loop-k.invariant.0 c.loop-k-test.true c.loop-k.invariant.3 c.wing.ensures,
+)
 
 pub shape_of-r : goal.shape_of-r
-shape_of-r c =c.loop-k.invariant.2 ∙ c.straight.auto.0
+shape_of-r c = c.loop-k.invariant.2 ∙ c.straight.auto.r
 
 pub returns : goal.returns
 returns c =
     let g = c.args.g in
-    finish g c.args.st (λ i. get_or c.args.r.now i 0) (λ i. get_or c.straight.new.0 i 0) (λ i. get_or c.loop-k.r i 0) c.requires.0 c.straight.ensures
-    (subst (λ (n : ℕ). Going g c.args.st n (λ i. get_or c.straight.new.0 i 0) (λ i. get_or c.loop-k.r i 0)) (le_antisymm c.loop-k.invariant.1 c.loop-k-test.false) c.loop-k.invariant.3)
+    finish g c.args.st (λ i. get_or c.args.r.now i 0) (λ i. get_or c.straight.new.r i 0) (λ i. get_or c.loop-k.r i 0) c.requires.0 c.straight.ensures
+    (subst (λ (n : ℕ). Going g c.args.st n (λ i. get_or c.straight.new.r i 0) (λ i. get_or c.loop-k.r i 0)) (le_antisymm c.loop-k.invariant.1 c.loop-k-test.false) c.loop-k.invariant.3)

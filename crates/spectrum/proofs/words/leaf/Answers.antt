@@ -1,7 +1,6 @@
 -- `spectrum::words::leaf` meets its contract. Assumes nothing.
 use native.Mathlib.Omega.{arith}
 use Rattle.spectrum.proofs.Stores.{stored_0, stored_1, stored_2, stored_3}
-use borrow.Author.Rules.{rules}
 use Rattle.spectrum.proofs.words.leaf.Goals as goal
 
 pub of_four-w-requires : goal.of_four-w-requires

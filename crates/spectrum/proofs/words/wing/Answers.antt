@@ -5,7 +5,6 @@ use native.Mathlib.Nat.{mul-lt-mul_of_pos_right, mul-le-mul}
 use Rattle.spectrum.proofs.Blocks.{quarter-most}
 use Rattle.spectrum.proofs.Stores.{winged, wing_in, wing_in_2, wing_in_3}
 use native.Mathlib.Omega.{arith}
-use borrow.Author.Rules.{rules}
 use Rattle.spectrum.proofs.words.wing.Goals as goal
 
 -- the turn is less than a quarter
@@ -17,28 +16,28 @@ turn k g st low high whole = (omega (arith, mul-le-mul low (step g st whole)), o
     step g (suc st) e = omega arith
 
 pub overflow_mul-b : goal.overflow_mul-b
-overflow_mul-b c =omega (arith, quarter-most c.args.g c.args.st c.requires.2)
+overflow_mul-b c = omega (arith, quarter-most c.args.g c.args.st c.requires.2)
 
 pub overflow_cast-b : goal.overflow_cast-b
-overflow_cast-b c =omega (arith, quarter-most c.args.g c.args.st c.requires.2)
+overflow_cast-b c = omega (arith, quarter-most c.args.g c.args.st c.requires.2)
 
 pub overflow_mul-e : goal.overflow_mul-e
-overflow_mul-e c =omega (arith, quarter-most c.args.g c.args.st c.requires.2)
+overflow_mul-e c = omega (arith, quarter-most c.args.g c.args.st c.requires.2)
 
 pub overflow_add-e : goal.overflow_add-e
-overflow_add-e c =omega (arith, quarter-most c.args.g c.args.st c.requires.2)
+overflow_add-e c = omega (arith, quarter-most c.args.g c.args.st c.requires.2)
 
 pub overflow_cast-e : goal.overflow_cast-e
-overflow_cast-e c =omega (arith, quarter-most c.args.g c.args.st c.requires.2)
+overflow_cast-e c = omega (arith, quarter-most c.args.g c.args.st c.requires.2)
 
 pub overflow_mul-d : goal.overflow_mul-d
-overflow_mul-d c =omega (arith, quarter-most c.args.g c.args.st c.requires.2)
+overflow_mul-d c = omega (arith, quarter-most c.args.g c.args.st c.requires.2)
 
 pub overflow_cast-d : goal.overflow_cast-d
-overflow_cast-d c =omega (arith, quarter-most c.args.g c.args.st c.requires.2)
+overflow_cast-d c = omega (arith, quarter-most c.args.g c.args.st c.requires.2)
 
 pub overflow_mul-k : goal.overflow_mul-k
-overflow_mul-k c =omega (arith, (turn c.args.k c.args.g c.args.st c.requires.0 c.requires.1 c.requires.2).1)
+overflow_mul-k c = omega (arith, (turn c.args.k c.args.g c.args.st c.requires.0 c.requires.1 c.requires.2).1)
 
 pub butterfly-w-requires : goal.butterfly-w-requires
 butterfly-w-requires c =
@@ -46,13 +45,13 @@ butterfly-w-requires c =
     (t.0, t.1, c.requires.4, c.requires.5, c.requires.6, c.requires.7)
 
 pub bounds-r-b-2 : goal.bounds-r-b-2
-bounds-r-b-2 c =wing_in c.args.r.now c.args.g c.args.st c.args.k c.requires.0 c.requires.1 c.requires.3 _
+bounds-r-b-2 c = wing_in c.args.r.now c.args.g c.args.st c.args.k c.requires.0 c.requires.1 c.requires.3 _
 
 pub bounds-r-e-2 : goal.bounds-r-e-2
-bounds-r-e-2 c =wing_in_2 c.args.r.now c.args.g c.args.st c.args.k c.requires.0 c.requires.1 c.requires.3 _ _
+bounds-r-e-2 c = wing_in_2 c.args.r.now c.args.g c.args.st c.args.k c.requires.0 c.requires.1 c.requires.3 _ _
 
 pub bounds-r-d-2 : goal.bounds-r-d-2
-bounds-r-d-2 c =wing_in_3 c.args.r.now c.args.g c.args.st c.args.k c.requires.0 c.requires.1 c.requires.3 _ _ _
+bounds-r-d-2 c = wing_in_3 c.args.r.now c.args.g c.args.st c.args.k c.requires.0 c.requires.1 c.requires.3 _ _ _
 
 pub returns : goal.returns
-returns c =winged c.args.r.now c.args.g c.args.st c.args.k c.requires.0 c.requires.1 c.requires.3 _ _ _ _ c.butterfly-w.ensures
+returns c = winged c.args.r.now c.args.g c.args.st c.args.k c.requires.0 c.requires.1 c.requires.3 _ _ _ _ c.butterfly-w.ensures
