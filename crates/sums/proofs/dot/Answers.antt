@@ -6,8 +6,6 @@ use native.Mathlib.Omega.{arith}
 use lib.Dec.{T}
 use lib.Ieee.{Float}
 use lib.Ieee.Scale.{finite}
-use borrow.Author.Rules.{rules}
-use borrow.Author.Tests.{not-true, not-false}
 use Rattle.units.proofs.Size.{finite-real}
 use Rattle.sums.specs.Dot.{Lengths, all_finite, dot_of}
 use Rattle.sums.proofs.Lists.{Fits}
@@ -33,15 +31,13 @@ lengths : (c : Else-a-gt65536) → Lengths (first c) (second c)
 lengths c = record { same = c.if-a-b.false; most = c.if-a-gt65536.false }
 
 fits-first : (c : Else-a-gt65536) → Fits (first c)
-fits-first c i = c.shared_slice_known-1.given i
+fits-first c i = c.type_inv.a i
 
 fits-second : (c : Else-a-gt65536) → Fits (second c)
-fits-second c i = c.shared_slice_known-2-1.given i
+fits-second c i = c.type_inv.b i
 
--- CHECK helper second at Else-a-gt65536
--- CHECK helper first at Else-a-gt65536
 -- what was tested is the sum in the program's order
-tested : (c : After-is_finite) → c.is_finite.result ≡ finite (dot_of (first c) (second c))
+tested : (c : After-is_finite) → c.is_finite.result ≡ finite (dot_of c.args.a.now c.args.b.now)
 tested c = c.is_finite.ensures ∙ ap finite c.in_pairs-s.ensures
 
 passed : (c : Then-is_finite) → T (finite c.in_pairs-s.result)
