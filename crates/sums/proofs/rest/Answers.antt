@@ -83,9 +83,11 @@ thirty_two-s-requires c = record { first = omega arith; second = omega arith }
 
 pub returns-then-n-eq1-6 : goal.returns-then-n-eq1-6
 returns-then-n-eq1-6 c =
-    digit_on c.args.a.now c.args.b.now c.requires 5 c.if-n-eq1-6.true (after-sixteen (goal.at.returns-then-n-eq1-6 c).Joined-n-eq1-5) c.behind-then-n-eq1-6.ensures c.behind-then-n-eq1-6-2.ensures
-    c.thirty_two-s.ensures
+    digit_on c.args.a.now c.args.b.now c.requires 5 c.if-n-eq1-6.true
+    (after-sixteen (goal.at.returns-then-n-eq1-6 c).Joined-n-eq1-5)
+    c.behind-then-n-eq1-6.ensures c.behind-then-n-eq1-6-2.ensures c.thirty_two-s.ensures
 
 pub returns-else-n-eq1-6 : goal.returns-else-n-eq1-6
 returns-else-n-eq1-6 c =
-    digit_off c.args.a.now c.args.b.now c.requires 5 c.if-n-eq1-6.false (after-sixteen (goal.at.returns-else-n-eq1-6 c).Joined-n-eq1-5)
+    digit_off c.args.a.now c.args.b.now c.requires 5 c.if-n-eq1-6.false
+    (after-sixteen (goal.at.returns-else-n-eq1-6 c).Joined-n-eq1-5)
