@@ -9,7 +9,6 @@ use lib.Dec.{ltb, lit≤, lit<}
 use lib.Pow.{pow_pos}
 use borrow.Author.Tests.{le-ltb, lt-ltb}
 use lib.Ieee.{Float, binary32, of_bits}
-use lib.Ieee.Scale.{finite}
 use Rattle.units.specs.Units.{P, N, Number}
 use Rattle.units.specs.Answers.{Ends, float_bits}
 use Rattle.units.proofs.Naturals.{le-or-lt}

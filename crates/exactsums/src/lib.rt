@@ -1,6 +1,8 @@
 // The dot product that is the float nearest to the exact sum: products of significands go into bins of whole numbers, four binary
 // places apart, and one rounding ends it.
 
+#![tactic(auto)]
+
 ghost use Rattle.std.specs.Prelude.{◌≡◌, ◌+◌, ◌*◌, ◌≤◌, ◌<◌, ◌^◌, length};
 ghost use Rattle.units.specs.Answers.{Ends, float_bits};
 ghost use Rattle.units.specs.Tests.{Tells};

@@ -1,7 +1,7 @@
 -- The dot product's promise, for each way in which the program returns. Assumes nothing.
 use mathlib.Core.Path.{◌≡◌, refl, ap, ◌∙◌}
 use mathlib.Core.List.{List, [], ◌∷◌}
-use Prim.Native.Nat.{ℕ, ◌+◌, ◌≤◌}
+use Prim.Native.Nat.{ℕ, ◌≤◌}
 use native.Mathlib.Nat.{le_trans, le_of_eq}
 use native.Mathlib.Omega.{arith}
 use lib.Dec.{T}

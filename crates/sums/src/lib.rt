@@ -1,5 +1,7 @@
 // The dot product: neighbours are added in pairs, and finiteness is tested once, at the end.
 
+#![tactic(auto)]
+
 ghost use Rattle.std.specs.Prelude.{◌≡◌, ◌+◌, ◌*◌, ◌≤◌, ◌<◌, length};
 ghost use Rattle.std.specs.Float.Ieee.Scale.{finite};
 ghost use Rattle.units.specs.Answers.{Ends, float_bits};

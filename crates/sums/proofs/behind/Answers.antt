@@ -1,5 +1,4 @@
 -- `sums::behind` meets its contract: the part of a slice that starts at i is what is left behind the first i. Assumes nothing.
-use borrow.Author.Rules.{rules}
 use Prim.Native.Nat.{◌-◌}
 use native.Mathlib.Omega.{arith}
 use lib.ListN.{length, drop, length-drop}

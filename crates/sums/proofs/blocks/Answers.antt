@@ -1,13 +1,12 @@
 -- `sums::blocks` meets its contract. The first loop's invariant: the counter holds the sums of the blocks passed. The second's: s is the sum of all
 -- that lies behind the blocks whose digits are left. Assumes nothing.
 use mathlib.Core.Path.{◌≡◌, refl, ap, ◌∙◌}
-use mathlib.Core.Logic.{inl, inr}
-use Prim.Native.Nat.{ℕ, ◌-◌, ◌*◌, ◌/◌, ◌^◌, ◌≤◌, ◌<◌}
+use Prim.Native.Nat.{ℕ, ◌*◌, ◌/◌, ◌<◌}
 use native.Mathlib.Omega.{arith}
 use lib.ListN.{length, drop}
 use Rattle.sums.specs.Value.{sum_of, Held}
-use Rattle.sums.proofs.Counter.{nothing_held, behind_at, next_digit, held_digit, collect_on, collect_off, collected}
-use Rattle.sums.proofs.blocks.Goals.{At-loop-c, In-loop-c}
+use Rattle.sums.proofs.Counter.{nothing_held, next_digit, held_digit, collect_on, collect_off, collected}
+use Rattle.sums.proofs.blocks.Goals.{At-loop-c, In-loop-c, then-c-eq1, else-c-eq1}
 use Rattle.sums.proofs.blocks.Goals as goal
 
 pub loop-i-init : goal.loop-i-init
@@ -52,8 +51,11 @@ loop-c-preserved c =
     let (e, f) = c.loop-c.invariant in (
       next_digit a b c.requires.0 c.loop-c.l c.loop-c.c e f,
       elim c.if-c-eq1.branch [
-        | inl (u, g) ↦ g ∙ collect_on a b c.requires.0 c.loop-c.l c.loop-c.c e f c.loop-i.held (counted (goal.at.loop-c-preserved c).At-loop-c) u.true
-        | inr (u, g) ↦ g ∙ collect_off a b c.requires.0 c.loop-c.l c.loop-c.c e f u.false
+        | then-c-eq1 w ↦
+            w.s-is
+            ∙ collect_on a b c.requires.0 c.loop-c.l c.loop-c.c e f c.loop-i.held (counted (goal.at.loop-c-preserved c).At-loop-c)
+            w.if-c-eq1.true
+        | else-c-eq1 w ↦ w.s-is ∙ collect_off a b c.requires.0 c.loop-c.l c.loop-c.c e f w.if-c-eq1.false
       ],
     )
 

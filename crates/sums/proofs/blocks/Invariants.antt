@@ -1,12 +1,9 @@
 -- `sums::blocks` meets its contract. The first loop's invariant: the counter holds the sums of the blocks passed. The second's: s is the sum of all
 -- that lies behind the blocks whose digits are left. Assumes nothing.
-use mathlib.Core.Path.{◌≡◌, refl, ap, ◌∙◌}
-use mathlib.Core.Logic.{inl, inr}
-use Prim.Native.Nat.{ℕ, ◌-◌, ◌*◌, ◌/◌, ◌^◌, ◌≤◌, ◌<◌}
-use native.Mathlib.Omega.{arith}
-use lib.ListN.{length, drop}
-use Rattle.sums.specs.Value.{sum_of, Held}
-use Rattle.sums.proofs.Counter.{nothing_held, behind_at, next_digit, held_digit, collect_on, collect_off, collected}
+use mathlib.Core.Path.{◌≡◌}
+use Prim.Native.Nat.{◌-◌, ◌*◌, ◌/◌, ◌^◌, ◌≤◌}
+use Rattle.sums.specs.Value.{Held}
+use Rattle.sums.proofs.Counter.{behind_at}
 use Rattle.sums.proofs.blocks.Given as goal
 
 abbrev pub invariant-loop-i : goal.invariant-loop-i

@@ -1,9 +1,8 @@
 -- `sums::carry` meets its contract. The loop's invariant: s is the sum of as many blocks as the digits that were carried, up to block i. Assumes nothing.
-use mathlib.Core.Path.{◌≡◌, sym, ap, ap₂, ◌∙◌}
-use Prim.Native.Nat.{◌+◌, ◌*◌, ◌^◌, ◌<◌}
+use mathlib.Core.Path.{sym, ap, ap₂, ◌∙◌}
+use Prim.Native.Nat.{◌+◌, ◌<◌}
 use native.Mathlib.Nat.{mul-one}
 use native.Mathlib.Omega.{arith}
-use borrow.Author.Rules.{rules}
 use Rattle.sums.specs.Value.{block_of}
 use Rattle.sums.proofs.Counter.{in_counter, block_at, carry_on, carry_place, carry_end}
 use Rattle.sums.proofs.carry.Goals.{At-loop-c}

@@ -1,11 +1,7 @@
 -- `sums::carry` meets its contract. The loop's invariant: s is the sum of as many blocks as the digits that were carried, up to block i. Assumes nothing.
-use mathlib.Core.Path.{◌≡◌, sym, ap, ap₂, ◌∙◌}
-use Prim.Native.Nat.{◌+◌, ◌*◌, ◌^◌, ◌<◌}
-use native.Mathlib.Nat.{mul-one}
-use native.Mathlib.Omega.{arith}
-use borrow.Author.Rules.{rules}
-use Rattle.sums.specs.Value.{block_of}
-use Rattle.sums.proofs.Counter.{in_counter, block_at, carry_on, carry_place, carry_end}
+use mathlib.Core.Path.{◌≡◌}
+use Prim.Native.Nat.{◌+◌, ◌*◌, ◌^◌}
+use Rattle.sums.proofs.Counter.{block_at}
 use Rattle.sums.proofs.carry.Given as goal
 
 abbrev pub invariant-loop-c : goal.invariant-loop-c

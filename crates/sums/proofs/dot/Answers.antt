@@ -1,13 +1,9 @@
 -- `sums::dot` meets its promise: each return is lists whose sum is finite, or lists that the tests show are refused. Assumes nothing.
 use mathlib.Core.Path.{◌≡◌, sym, ap, ◌∙◌, subst}
-use mathlib.Core.List.{List}
 use mathlib.Core.Bool.{Bool, true, false}
 use native.Mathlib.Omega.{arith}
 use lib.Dec.{T}
-use lib.Ieee.{Float}
 use lib.Ieee.Scale.{finite}
-use borrow.Author.Rules.{rules}
-use borrow.Author.Tests.{not-true, not-false}
 use Rattle.units.proofs.Size.{finite-real}
 use Rattle.sums.specs.Dot.{Lengths, all_finite, dot_of}
 use Rattle.sums.proofs.Lists.{Fits}
@@ -23,25 +19,17 @@ pub returns-then-a-gt65536 : goal.returns-then-a-gt65536
 returns-then-a-gt65536 c = refused_lengths c.args.a.now c.args.b.now (λ l. omega arith)
 
 -- ---- the lists behind the tests of their lengths
-abbrev first : Else-a-gt65536 → List Float
-first c = c.args.a.now
-
-abbrev second : Else-a-gt65536 → List Float
-second c = c.args.b.now
-
-lengths : (c : Else-a-gt65536) → Lengths (first c) (second c)
+lengths : (c : Else-a-gt65536) → Lengths c.args.a.now c.args.b.now
 lengths c = record { same = c.if-a-b.false; most = c.if-a-gt65536.false }
 
-fits-first : (c : Else-a-gt65536) → Fits (first c)
-fits-first c i = c.shared_slice_known-1.given i
+fits-first : (c : Else-a-gt65536) → Fits c.args.a.now
+fits-first c i = c.type_inv.a i
 
-fits-second : (c : Else-a-gt65536) → Fits (second c)
-fits-second c i = c.shared_slice_known-2-1.given i
+fits-second : (c : Else-a-gt65536) → Fits c.args.b.now
+fits-second c i = c.type_inv.b i
 
--- CHECK helper second at Else-a-gt65536
--- CHECK helper first at Else-a-gt65536
 -- what was tested is the sum in the program's order
-tested : (c : After-is_finite) → c.is_finite.result ≡ finite (dot_of (first c) (second c))
+tested : (c : After-is_finite) → c.is_finite.result ≡ finite (dot_of c.args.a.now c.args.b.now)
 tested c = c.is_finite.ensures ∙ ap finite c.in_pairs-s.ensures
 
 passed : (c : Then-is_finite) → T (finite c.in_pairs-s.result)
@@ -52,7 +40,10 @@ float_to_bits-out c = finite-real c.in_pairs-s.result (passed (goal.at.float_to_
 
 pub returns-then-is_finite : goal.returns-then-is_finite
 returns-then-is_finite c =
-    success (first (goal.at.returns-then-is_finite c).Else-a-gt65536) (second (goal.at.returns-then-is_finite c).Else-a-gt65536) (fits-first (goal.at.returns-then-is_finite c).Else-a-gt65536) (fits-second (goal.at.returns-then-is_finite c).Else-a-gt65536) (lengths (goal.at.returns-then-is_finite c).Else-a-gt65536) c.in_pairs-s.ensures (passed (goal.at.returns-then-is_finite c).Then-is_finite)
+    let at = goal.at.returns-then-is_finite c in
+    let e = at.Else-a-gt65536 in
+    success c.args.a.now c.args.b.now (fits-first e) (fits-second e) (lengths e) c.in_pairs-s.ensures
+    (passed at.Then-is_finite)
 
 -- ---- refused by an element, or by an intermediate result where there is no such element
 never : {b : Bool} → b ≡ false → T b → ⊥
@@ -60,14 +51,21 @@ never e t = subst T e t
 
 pub returns-then-not-all_finite : goal.returns-then-not-all_finite
 returns-then-not-all_finite c =
-    refused_element (first (goal.at.returns-then-not-all_finite c).Else-a-gt65536) (second (goal.at.returns-then-not-all_finite c).Else-a-gt65536) (lengths (goal.at.returns-then-not-all_finite c).Else-a-gt65536) (λ h. never (sym c.all_finite.ensures ∙ c.if-not-all_finite.true) h.first)
+    let e = (goal.at.returns-then-not-all_finite c).Else-a-gt65536 in
+    refused_element c.args.a.now c.args.b.now (lengths e)
+    (λ h. never (sym c.all_finite.ensures ∙ c.if-not-all_finite.true) h.first)
 
 pub returns-then-not-all_finite-2 : goal.returns-then-not-all_finite-2
 returns-then-not-all_finite-2 c =
-    refused_element (first (goal.at.returns-then-not-all_finite-2 c).Else-a-gt65536) (second (goal.at.returns-then-not-all_finite-2 c).Else-a-gt65536) (lengths (goal.at.returns-then-not-all_finite-2 c).Else-a-gt65536) (λ h. never (sym c.all_finite-2.ensures ∙ c.if-not-all_finite-2.true) h.second)
+    let e = (goal.at.returns-then-not-all_finite-2 c).Else-a-gt65536 in
+    refused_element c.args.a.now c.args.b.now (lengths e)
+    (λ h. never (sym c.all_finite-2.ensures ∙ c.if-not-all_finite-2.true) h.second)
 
 pub returns : goal.returns
 returns c =
-    let a : all_finite (first (goal.at.returns c).Else-a-gt65536) ≡ true = sym c.all_finite.ensures ∙ c.if-not-all_finite.false in
-    let b : all_finite (second (goal.at.returns c).Else-a-gt65536) ≡ true = sym c.all_finite-2.ensures ∙ c.if-not-all_finite-2.false in
-    refused_overflow (first (goal.at.returns c).Else-a-gt65536) (second (goal.at.returns c).Else-a-gt65536) (lengths (goal.at.returns c).Else-a-gt65536) (record { first = subst T (sym a) tt; second = subst T (sym b) tt }) (never (sym (tested (goal.at.returns c).After-is_finite) ∙ c.if-is_finite.false))
+    let at = goal.at.returns c in
+    let a : all_finite c.args.a.now ≡ true = sym c.all_finite.ensures ∙ c.if-not-all_finite.false in
+    let b : all_finite c.args.b.now ≡ true = sym c.all_finite-2.ensures ∙ c.if-not-all_finite-2.false in
+    refused_overflow c.args.a.now c.args.b.now (lengths at.Else-a-gt65536)
+    (record { first = subst T (sym a) tt; second = subst T (sym b) tt })
+    (never (sym (tested at.After-is_finite) ∙ c.if-is_finite.false))

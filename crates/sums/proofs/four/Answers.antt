@@ -1,5 +1,4 @@
 -- `sums::four` meets its contract: a block from its halves. Assumes nothing.
-use borrow.Author.Rules.{rules}
 use Rattle.sums.proofs.Pieces.{halves}
 use Rattle.sums.proofs.four.Goals as goal
 

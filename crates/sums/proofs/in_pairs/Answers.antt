@@ -3,7 +3,6 @@ use mathlib.Core.Path.{◌≡◌, sym, ap, ◌∙◌}
 use Prim.Native.Nat.{ℕ, ◌*◌, ◌/◌}
 use native.Mathlib.Omega.{arith}
 use lib.ListN.{length, drop}
-use borrow.Author.Rules.{rules}
 use Rattle.sums.specs.Value.{sum_of}
 use Rattle.sums.proofs.Pieces.{dot_empty, sum-some}
 use Rattle.sums.proofs.in_pairs.Goals as goal

@@ -1,5 +1,4 @@
 -- `sums::sixteen` meets its contract: a block from its halves. Assumes nothing.
-use borrow.Author.Rules.{rules}
 use Rattle.sums.proofs.Pieces.{halves}
 use Rattle.sums.proofs.sixteen.Goals as goal
 

@@ -1,5 +1,4 @@
 -- `sums::sixty_four` meets its contract: a block from its halves, and each of them from its own. Assumes nothing.
-use borrow.Author.Rules.{rules}
 use Rattle.sums.proofs.Pieces.{halves}
 use Rattle.sums.proofs.sixty_four.Goals as goal
 

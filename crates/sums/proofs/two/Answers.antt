@@ -1,5 +1,4 @@
 -- `sums::two` meets its contract: two products are the smallest block. Assumes nothing.
-use borrow.Author.Rules.{rules}
 use lib.Seq.{get_or-drop}
 use lib.Ieee.{nan}
 use Rattle.sums.specs.Value.{block_of}

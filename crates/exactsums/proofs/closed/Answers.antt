@@ -1,0 +1,11 @@
+-- `exactsums::closed` meets its contract. Assumes nothing.
+use mathlib.Core.Path.{refl, sym, ◌∙◌}
+use mathlib.Core.Bool.{true≢false}
+use native.Mathlib.Omega.{arith}
+use Rattle.exactsums.proofs.closed.Goals as goal
+
+pub returns-then-below : goal.returns-then-below
+returns-then-below c = record { plus = λ e. absurd (true≢false (sym c.if-below.true ∙ e)); minus = λ e. omega arith }
+
+pub returns-else-below : goal.returns-else-below
+returns-else-below c = record { plus = λ e. refl; minus = λ e. absurd (true≢false (sym e ∙ c.if-below.false)) }

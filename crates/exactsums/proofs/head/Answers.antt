@@ -1,0 +1,62 @@
+-- `exactsums::head` meets its contract. The loop's invariant: h and the digits below the place i are the whole. Assumes nothing.
+use mathlib.Core.Path.{◌≡◌}
+use Prim.Native.Nat.{ℕ, ◌+◌, ◌-◌, ◌*◌, ◌^◌, ◌≤◌, ◌<◌}
+use native.Mathlib.Omega.{arith}
+use Rattle.exactsums.proofs.Bins.{number-none}
+use Rattle.exactsums.proofs.Heads.{start-plus, start-minus, next_plus, next_minus}
+use Rattle.exactsums.proofs.head.Goals as goal
+
+-- facts on plain numbers
+under : {n : ℕ} → n ≤ 2 ^ 60 → n < 2 ^ 61
+under l = omega arith
+
+shorter : {i : ℕ} → i ≤ 41 → i - 1 ≤ 41
+shorter l = omega arith
+
+inside : {i : ℕ} → i ≤ 41 → 0 < i → i - 1 < 41
+inside l m = omega arith
+
+more : {h d : ℕ} → h < 144115188075855872 → d < 16 → 16 * h + d < 2 ^ 61
+more l m = omega arith
+
+pub loop-i-init : goal.loop-i-init
+loop-i-init c = (omega arith, under c.requires.1, start-plus c.args.top c.args.digits.now c.args.below, start-minus c.args.top c.args.digits.now c.args.below c.requires.0)
+
+pub overflow_sub-i : goal.overflow_sub-i
+overflow_sub-i c = c.loop-i-test.true
+
+pub overflow_mul-h : goal.overflow_mul-h
+overflow_mul-h c = omega (arith, c.if-h-lt144115188075855872.true)
+
+pub bounds-digits-k : goal.bounds-digits-k
+bounds-digits-k c = inside c.loop-i.invariant.0 c.loop-i-test.true
+
+pub digit-requires : goal.digit-requires
+digit-requires c = c.requires.0.each (c.loop-i.i - 1)
+
+pub overflow_add-h : goal.overflow_add-h
+overflow_add-h c = omega (arith, c.if-h-lt144115188075855872.true, c.digit.ensures.small)
+
+pub loop-i-preserved : goal.loop-i-preserved
+loop-i-preserved c =
+    let l = c.loop-i in
+    let some = c.loop-i-test.true in (
+      shorter l.invariant.0,
+      more c.if-h-lt144115188075855872.true c.digit.ensures.small,
+      next_plus c.args.top c.args.digits.now c.args.below l.h l.i c.digit.result some c.digit.ensures l.invariant.2,
+      next_minus c.args.top c.args.digits.now c.args.below l.h l.i c.digit.result some c.digit.ensures l.invariant.3,
+    )
+
+-- h is large, or no digit is left
+pub returns-else-h-lt144115188075855872 : goal.returns-else-h-lt144115188075855872
+returns-else-h-lt144115188075855872 c =
+    let l = c.loop-i in
+    record { room = l.invariant.0; small = l.invariant.1; enough = λ k. c.if-h-lt144115188075855872.false; plus = l.invariant.2; minus = l.invariant.3 }
+
+pub returns-after-loop-i : goal.returns-after-loop-i
+returns-after-loop-i c =
+    let l = c.loop-i in
+    record { room = l.invariant.0; small = l.invariant.1; enough = λ k. absurd (never (number-none c.args.digits.now 0 l.i c.loop-i-test.false) k); plus = l.invariant.2; minus = l.invariant.3 }
+  where
+    never : {n : ℕ} → n ≡ 0 → 0 < n → ⊥
+    never e m = omega arith
