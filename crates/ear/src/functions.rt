@@ -203,7 +203,10 @@ fn steps(rt: &impl Print, floats: &[f32])
 // The channel, then envelope values.
 fn loudness(rt: &impl Print, floats: &[f32]) {
     if floats.len() < 5 {
-        say(rt, b"earmath: loudness takes b m T C and then one or more values");
+        say(
+            rt,
+            b"earmath: loudness takes b m T C and then one or more values",
+        );
     } else {
         steps(rt, floats);
     }

@@ -41,7 +41,11 @@ fn complain(rt: &impl Print, word: &[u8], what: &[u8]) {
 fn pattern(rt: &impl Print, word: &[u8]) -> u64 {
     let b = words::bits(word);
     if words::NOT_A_PATTERN <= b {
-        complain(rt, word, b" is no bit pattern of 1 to 8 hexadecimal digits\n");
+        complain(
+            rt,
+            word,
+            b" is no bit pattern of 1 to 8 hexadecimal digits\n",
+        );
     }
     b
 }

@@ -38,7 +38,7 @@ pub fn place(word: &[u8], line: &[u8]) -> usize
     while a < line.len() {
         let e = find(line, a + 1, true);
         n += 1;
-        if *word == line[a..e] {
+        if word == &line[a..e] {
             return n;
         }
         a = find(line, e, false);
