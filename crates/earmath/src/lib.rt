@@ -1,4 +1,6 @@
-// The C interface: one thin function for each, with the whole promise as its contract. include/earmath.h says the same in words.
+// What the C interface promises: one thin function for each of its own, with the whole promise as its contract. The crate earmath_c exports them.
+
+#![tactic(auto)]
 
 ghost use Rattle.std.specs.Prelude.{length};
 ghost use Rattle.units.specs.Answers.{Ends, float_bits, list_bits, itself};
@@ -19,80 +21,70 @@ ghost use Rattle.powers.specs.Base.{two, natural};
 ghost use Rattle.weights.specs.Softmax.{Softmax, floats_of};
 
 // The square root of every bit pattern: the nearest float, or code 1 and nothing written.
-#[unsafe(no_mangle)]
-pub extern "C" fn ear_sqrt(x: f32, out: &mut u32) -> u32
+pub fn ear_sqrt(x: f32, out: &mut u32) -> u32
     ensures { Ends float_bits (Sqrt x) result out.old out.new }
 {
     roots::sqrt(x, out)
 }
 
 // 1 over the square root of every bit pattern: the nearest float, or code 1 and nothing written.
-#[unsafe(no_mangle)]
-pub extern "C" fn ear_rsqrt(x: f32, out: &mut u32) -> u32
+pub fn ear_rsqrt(x: f32, out: &mut u32) -> u32
     ensures { Ends float_bits (Rsqrt x) result out.old out.new }
 {
     roots::rsqrt(x, out)
 }
 
 // 2 to the power of every bit pattern: the nearest float, or code 1 and nothing written.
-#[unsafe(no_mangle)]
-pub extern "C" fn ear_exp2(x: f32, out: &mut u32) -> u32
+pub fn ear_exp2(x: f32, out: &mut u32) -> u32
     ensures { Ends float_bits (Exp2 x) result out.old out.new }
 {
     powers::exp2(x, out)
 }
 
 // e to the power of every bit pattern: within 515 / 2^33 of it, or code 1 and nothing written.
-#[unsafe(no_mangle)]
-pub extern "C" fn ear_exp(x: f32, out: &mut u32) -> u32
+pub fn ear_exp(x: f32, out: &mut u32) -> u32
     ensures { Ends float_bits (Exp x) result out.old out.new }
 {
     powers::natural::exp(x, out)
 }
 
 // The logarithm to base two of every bit pattern: within 33 / 2^29 of it, relatively, and of 1 it is +0; or code 1 and nothing written.
-#[unsafe(no_mangle)]
-pub extern "C" fn ear_log2(x: f32, out: &mut u32) -> u32
+pub fn ear_log2(x: f32, out: &mut u32) -> u32
     ensures { Ends float_bits (Log2 x) result out.old out.new }
 {
     logs::log2(x, out)
 }
 
 // sin(pi x) of every bit pattern below 2^22 in size: within 17 / 2^29 of it, or code 1 and nothing written.
-#[unsafe(no_mangle)]
-pub extern "C" fn ear_sinpi(x: f32, out: &mut u32) -> u32
+pub fn ear_sinpi(x: f32, out: &mut u32) -> u32
     ensures { Ends float_bits (SinPi x) result out.old out.new }
 {
     circle::sinpi(x, out)
 }
 
 // cos(pi x), likewise.
-#[unsafe(no_mangle)]
-pub extern "C" fn ear_cospi(x: f32, out: &mut u32) -> u32
+pub fn ear_cospi(x: f32, out: &mut u32) -> u32
     ensures { Ends float_bits (CosPi x) result out.old out.new }
 {
     circle::cospi(x, out)
 }
 
 // sin x of every bit pattern that is a finite float: within 17 / 2^29 of it, or code 1 and nothing written.
-#[unsafe(no_mangle)]
-pub extern "C" fn ear_sin(x: f32, out: &mut u32) -> u32
+pub fn ear_sin(x: f32, out: &mut u32) -> u32
     ensures { Ends float_bits (Sin x) result out.old out.new }
 {
     circle::sin(x, out)
 }
 
 // cos x, likewise.
-#[unsafe(no_mangle)]
-pub extern "C" fn ear_cos(x: f32, out: &mut u32) -> u32
+pub fn ear_cos(x: f32, out: &mut u32) -> u32
     ensures { Ends float_bits (Cos x) result out.old out.new }
 {
     circle::cos(x, out)
 }
 
 // The sum of the products of two lists, neighbours added in pairs, within G times the sum of their sizes; or code 2, 1 or 3 and nothing written.
-#[unsafe(no_mangle)]
-pub extern "C" fn ear_dot(a: &[f32], b: &[f32], out: &mut u32) -> u32
+pub fn ear_dot(a: &[f32], b: &[f32], out: &mut u32) -> u32
     ensures { Ends float_bits (Dot a.now b.now) result out.old out.new }
 {
     sums::dot(a, b, out)
@@ -100,24 +92,21 @@ pub extern "C" fn ear_dot(a: &[f32], b: &[f32], out: &mut u32) -> u32
 
 // 2 to the power of each element of a list over the sum of all these powers: within 273 / 2^32 of the quotient and from below one least float, or code 2
 // or 1 and nothing written.
-#[unsafe(no_mangle)]
-pub extern "C" fn ear_softmax2(x: &[f32], p: &mut [u32]) -> u32
+pub fn ear_softmax2(x: &[f32], p: &mut [u32]) -> u32
     ensures { Ends list_bits (Softmax two x.now (length p.old)) result p.old p.new }
 {
     weights::softmax2(x, p)
 }
 
 // The same with e in the place of 2, and the same bounds.
-#[unsafe(no_mangle)]
-pub extern "C" fn ear_softmax(x: &[f32], p: &mut [u32]) -> u32
+pub fn ear_softmax(x: &[f32], p: &mut [u32]) -> u32
     ensures { Ends list_bits (Softmax natural x.now (length p.old)) result p.old p.new }
 {
     weights::softmax(x, p)
 }
 
 // The loudness map of an envelope value a in the channel b, m, t, c: a step within 0.500001 of the exact map, or code 4 or 1 and nothing written.
-#[unsafe(no_mangle)]
-pub extern "C" fn ear_loudness(b: f32, m: f32, t: u32, c: u32, a: f32, out: &mut u32) -> u32
+pub fn ear_loudness(b: f32, m: f32, t: u32, c: u32, a: f32, out: &mut u32) -> u32
     ensures { Ends itself (Loudness 255 b m t c a) result out.old out.new }
 {
     loudness::loudness(b, m, t, c, a, out)
@@ -125,16 +114,14 @@ pub extern "C" fn ear_loudness(b: f32, m: f32, t: u32, c: u32, a: f32, out: &mut
 
 // The softmax of the floats that a list holds, in their place: within 273 / 2^32 of the quotient and from below one least float, or code 2 or 1 and
 // nothing written.
-#[unsafe(no_mangle)]
-pub extern "C" fn ear_softmax2_in_place(p: &mut [u32]) -> u32
+pub fn ear_softmax2_in_place(p: &mut [u32]) -> u32
     ensures { Ends list_bits (Softmax two (floats_of p.old) (length p.old)) result p.old p.new }
 {
     weights::softmax2_in_place(p)
 }
 
 // The loudness map of a stimulator with the steps 0 to top, at most 1,023: a step within 0.500004 of the exact map, 0.500001 where top is at most 255.
-#[unsafe(no_mangle)]
-pub extern "C" fn ear_loudness_top(
+pub fn ear_loudness_top(
     top: u32,
     b: f32,
     m: f32,
@@ -149,8 +136,7 @@ pub extern "C" fn ear_loudness_top(
 }
 
 // The map with a knee: straight from b to k with the steps t to kk, and from k to m with the steps kk to c.
-#[unsafe(no_mangle)]
-pub extern "C" fn ear_loudness_knee(
+pub fn ear_loudness_knee(
     top: u32,
     b: f32,
     k: f32,
@@ -167,16 +153,14 @@ pub extern "C" fn ear_loudness_knee(
 }
 
 // What the map needs of a channel, worked out once, in 6 words: those that ear_step takes; or code 2 or 4 and nothing written.
-#[unsafe(no_mangle)]
-pub extern "C" fn ear_fit(top: u32, b: f32, m: f32, t: u32, c: u32, words: &mut [u32]) -> u32
+pub fn ear_fit(top: u32, b: f32, m: f32, t: u32, c: u32, words: &mut [u32]) -> u32
     ensures { Ends as_they_are (Fits (Channel top b m t c) (fitted_of b m t c) straight_words (length words.old)) result words.old words.new }
 {
     loudness::fitted::fit(top, b, m, t, c, words)
 }
 
 // The same of a bent channel, in 12 words.
-#[unsafe(no_mangle)]
-pub extern "C" fn ear_fit_knee(
+pub fn ear_fit_knee(
     top: u32,
     b: f32,
     k: f32,
@@ -192,24 +176,21 @@ pub extern "C" fn ear_fit_knee(
 }
 
 // The step of an envelope value by the words of a fitted channel: the map's; or code 2, 4 or 1 and nothing written.
-#[unsafe(no_mangle)]
-pub extern "C" fn ear_step(words: &[u32], a: f32, out: &mut u32) -> u32
+pub fn ear_step(words: &[u32], a: f32, out: &mut u32) -> u32
     ensures { Ends itself (Step words.now a) result out.old out.new }
 {
     loudness::fitted::step(words, a, out)
 }
 
 // The transform of 128 floats, parts 0 to 64: each within 2^-24 of its size, 2^-42 of the largest value and 2^-150, or code 2 or 1 and nothing written.
-#[unsafe(no_mangle)]
-pub extern "C" fn ear_transform128(x: &[f32], re: &mut [u32], im: &mut [u32]) -> u32
+pub fn ear_transform128(x: &[f32], re: &mut [u32], im: &mut [u32]) -> u32
     ensures { Ends both_bits (Transform x.now (length re.old) (length im.old)) result (re.old, im.old) (re.new, im.new) }
 {
     spectrum::transform(x, re, im)
 }
 
 // The currents of up to 65 bands of a windowed frame, each within 0.504 of a step of the exact path's, or code 2, 4 or 1 and nothing written.
-#[unsafe(no_mangle)]
-pub extern "C" fn ear_currents(
+pub fn ear_currents(
     top: u32,
     x: &[f32],
     w: &[f32],
@@ -222,8 +203,7 @@ pub extern "C" fn ear_currents(
 }
 
 // The sum of the products of two lists: the float nearest to the exact sum, or code 2 or 1 and nothing written.
-#[unsafe(no_mangle)]
-pub extern "C" fn ear_dot_nearest(a: &[f32], b: &[f32], out: &mut u32) -> u32
+pub fn ear_dot_nearest(a: &[f32], b: &[f32], out: &mut u32) -> u32
     ensures { Ends float_bits (NearestDot a.now b.now) result out.old out.new }
 {
     exactsums::dot_nearest(a, b, out)
