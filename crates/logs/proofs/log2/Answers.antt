@@ -17,7 +17,8 @@ rounded-requires c = rw c.fixed_log2.ensures.value (few c.args.x (c.in_range.ens
 
 pub returns-then-in_range : goal.returns-then-in_range
 returns-then-in_range c =
-    success c.args.x (c.in_range.ensures.if_true c.if-in_range.true) (c.rounded.ensures ∙ ap (rounded_bits (to_bits binary32 c.args.x)) c.fixed_log2.ensures.value)
+    success c.args.x (c.in_range.ensures.if_true c.if-in_range.true)
+    (c.rounded.ensures ∙ ap (rounded_bits (to_bits binary32 c.args.x)) c.fixed_log2.ensures.value)
 
 pub returns : goal.returns
 returns c = refusal c.args.x (c.in_range.ensures.if_false c.if-in_range.false)

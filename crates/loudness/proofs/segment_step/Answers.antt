@@ -35,19 +35,23 @@ float_to_bits-m c = no_nan _ (high c.requires.0).number
 
 pub returns-then-m-p : goal.returns-then-m-p
 returns-then-m-p c =
-    sym (step_loud _ _ _ _ _ (above-b (goal.at.returns-then-m-p c).Else-p-b) (from c.requires.1 (high c.requires.0) (rw c.size_bits-p.ensures at c.if-m-p.true)))
+    let at = goal.at.returns-then-m-p c in
+    sym (step_loud _ _ _ _ _ (above-b at.Else-p-b) (from c.requires.1 (high c.requires.0) (rw c.size_bits-p.ensures at c.if-m-p.true)))
 
 below-m : (c : Else-m-p) → P c.args.a < P c.args.m
 below-m c =
     short c.requires.1 (high c.requires.0) (rw c.size_bits-p.ensures at c.if-m-p.false)
 
 pub steps_between-requires : goal.steps_between-requires
-steps_between-requires c = record { segment = c.requires.0; number = c.requires.1.number; above = above-b (goal.at.steps_between-requires c).Else-p-b; below = below-m (goal.at.steps_between-requires c).Else-m-p }
+steps_between-requires c =
+    let at = goal.at.steps_between-requires c in
+    record { segment = c.requires.0; number = c.requires.1.number; above = above-b at.Else-p-b; below = below-m at.Else-m-p }
 
 -- the sum is the step of the map
 pub returns : goal.returns
 returns c =
-    ap (λ (n : ℕ). c.args.t + n) c.steps_between.ensures ∙ sym (step_between _ _ _ _ c.args.a (above-b (goal.at.returns c).Else-p-b) (below-m (goal.at.returns c).Else-m-p))
+    let at = goal.at.returns c in
+    ap (λ (n : ℕ). c.args.t + n) c.steps_between.ensures ∙ sym (step_between _ _ _ _ c.args.a (above-b at.Else-p-b) (below-m at.Else-m-p))
 
 -- and so at most 1,023
 pub overflow_add-result : goal.overflow_add-result

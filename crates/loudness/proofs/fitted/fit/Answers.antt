@@ -15,7 +15,9 @@ pub write-requires : goal.write-requires
 write-requires c = (c.if-w-ne6.false, segment (channel (goal.at.write-requires c).Then-is_channel))
 
 pub returns-then-is_channel : goal.returns-then-is_channel
-returns-then-is_channel c = fitted c.if-w-ne6.false (channel (goal.at.returns-then-is_channel c).Then-is_channel) c.write.ensures
+returns-then-is_channel c =
+    let at = goal.at.returns-then-is_channel c in
+    fitted c.if-w-ne6.false (channel at.Then-is_channel) c.write.ensures
 
 pub returns : goal.returns
 returns c = no_channel c.if-w-ne6.false (c.is_channel.ensures.if_false c.if-is_channel.false)

@@ -15,4 +15,6 @@ sum_of c =
     wrapped x y c v e f = omega arith
 
 pub returns : goal.returns
-returns c = record { if_true = λ e. sum_of (goal.at.returns c).After-wrapping_add_u32 ∙ eqb-true _ _ e; if_false = λ e h. eqb-false _ _ e (sym (sum_of (goal.at.returns c).After-wrapping_add_u32) ∙ h) }
+returns c =
+    let at = goal.at.returns c in
+    record { if_true = λ e. sum_of at.After-wrapping_add_u32 ∙ eqb-true _ _ e; if_false = λ e h. eqb-false _ _ e (sym (sum_of at.After-wrapping_add_u32) ∙ h) }

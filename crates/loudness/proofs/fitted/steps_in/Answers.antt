@@ -18,7 +18,11 @@ same : (c : After-scaled-i) → let w = c.args.w.now in c.scaled-i.result ≡ sc
 same c = let w = c.args.w.now in c.scaled-i.ensures ∙ ap (λ (y : ℕ). scaled y (get_or w 0 0 % 4096) (get_or w 4 0)) c.upper-y.ensures
 
 pub returns-then-k-i : goal.returns-then-k-i
-returns-then-k-i c = sym (in_most _ _ (word (goal.at.returns-then-k-i c).After-scaled-i) (rw (same (goal.at.returns-then-k-i c).After-scaled-i) at c.if-k-i.true))
+returns-then-k-i c =
+    let at = goal.at.returns-then-k-i c in
+    sym (in_most _ _ (word at.After-scaled-i) (rw (same at.After-scaled-i) at c.if-k-i.true))
 
 pub returns-else-k-i : goal.returns-else-k-i
-returns-else-k-i c = same (goal.at.returns-else-k-i c).After-scaled-i ∙ sym (in_between _ _ (word (goal.at.returns-else-k-i c).After-scaled-i) (rw (same (goal.at.returns-else-k-i c).After-scaled-i) at c.if-k-i.false))
+returns-else-k-i c =
+    let at = goal.at.returns-else-k-i c in
+    same at.After-scaled-i ∙ sym (in_between _ _ (word at.After-scaled-i) (rw (same at.After-scaled-i) at c.if-k-i.false))

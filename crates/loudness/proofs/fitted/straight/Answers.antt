@@ -15,14 +15,18 @@ passed : (c : Then-passes) → Passes c.args.w.now
 passed c = c.passes.ensures.if_true c.if-passes.true
 
 pub returns-then-a : goal.returns-then-a
-returns-then-a c = untouched 1 0 (λ z. omega arith) (record { how = inr (inl (refl, passed (goal.at.returns-then-a c).Then-passes, λ v. no_number c.args.a c.if-a.true v.number)) })
+returns-then-a c =
+    let at = goal.at.returns-then-a c in
+    untouched 1 0 (λ z. omega arith) (record { how = inr (inl (refl, passed at.Then-passes, λ v. no_number c.args.a c.if-a.true v.number)) })
 
 pub size_bits-p-requires : goal.size_bits-p-requires
 size_bits-p-requires c = equal_to_itself c.args.a c.if-a.false
 
 -- by the test of the pattern
 good : (c : Then-p-le1065353216) → Envelope c.args.a
-good c = (envelope c.args.a (subst T (sym c.well_formed.1.0.1) tt)).if_true (le-leb _ _ (rw c.size_bits-p.ensures at c.if-p-le1065353216.true))
+good c =
+    (envelope c.args.a (subst T (sym c.well_formed.1.0.1) tt)).if_true
+    (le-leb _ _ (rw c.size_bits-p.ensures at c.if-p-le1065353216.true))
 
 pub overflow_add-out : goal.overflow_add-out
 overflow_add-out c = omega (arith, c.threshold.ensures, c.steps_in.ensures, steps-most c.args.w.now c.rise.result)
@@ -37,7 +41,12 @@ returns-then-p-le1065353216 c =
     (ap₂ ◌+◌ c.threshold.ensures.0 (c.steps_in.ensures ∙ ap (steps_in w) (c.rise.ensures ∙ ap (rise_to w) x)))
 
 pub returns-then-passes : goal.returns-then-passes
-returns-then-passes c = untouched 1 0 (λ z. omega arith) (record { how = inr (inl (refl, passed (goal.at.returns-then-passes c).Then-passes, (envelope c.args.a (subst T (sym c.well_formed.1.0.1) tt)).if_false (lt-leb _ _ (rw c.size_bits-p.ensures at c.if-p-le1065353216.false)))) })
+returns-then-passes c =
+    let at = goal.at.returns-then-passes c in
+    let no =
+    (envelope c.args.a (subst T (sym c.well_formed.1.0.1) tt)).if_false
+    (lt-leb _ _ (rw c.size_bits-p.ensures at c.if-p-le1065353216.false)) in
+    untouched 1 0 (λ z. omega arith) (record { how = inr (inl (refl, passed at.Then-passes, no)) })
 
 pub returns : goal.returns
 returns c = untouched 4 0 (λ z. omega arith) (record { how = inl (refl, c.passes.ensures.if_false c.if-passes.false) })

@@ -12,10 +12,14 @@ digits_of : (c : After-line_of-f) → c.line_of-f.result.f < 17592186044416
 digits_of c = rw c.line_of-f.ensures.factor (digits _ _ _ _ c.requires.1)
 
 pub overflow_add-f : goal.overflow_add-f
-overflow_add-f c = let g = c.requires.1 in let l = g.few in omega (arith, digits_of (goal.at.overflow_add-f c).After-line_of-f)
+overflow_add-f c =
+    let at = goal.at.overflow_add-f c in
+    let g = c.requires.1 in let l = g.few in omega (arith, digits_of at.After-line_of-f)
 
 pub overflow_add-f-2 : goal.overflow_add-f-2
-overflow_add-f-2 c = let g = c.requires.1 in let l = g.few in let o = g.order in omega (arith, digits_of (goal.at.overflow_add-f-2 c).After-line_of-f)
+overflow_add-f-2 c =
+    let at = goal.at.overflow_add-f-2 c in
+    let g = c.requires.1 in let l = g.few in let o = g.order in omega (arith, digits_of at.After-line_of-f)
 
 -- the words of a line
 words : (b m : Float) (t c low s f : ℕ) → {n : ℕ} → IsLine b m t c low s f → (n + low) % 2 ^ 64 ≡ 0 → n < 2 ^ 64 → low < 2 ^ 64
