@@ -1,6 +1,6 @@
 -- What the error of a logarithm in fixed point says of the first digits: 15 parts in 2 ^ 33 are less than 8 of the last of 32 digits, and 3 * 2 ^ 22 steps, from 1 on, less than 2.
 -- Assumes nothing.
-use Rattle.std.proofs.Common.{◌≡◌, ℕ, ◌+◌, ◌-◌, ◌*◌, ◌^◌, ◌<◌, ◌≤◌, sym, ap, ◌∙◌, mul-le-mul_right, mul_assoc, mul_comm, mul-le-mul_left, mul-lt-mul_of_pos_right, arith, lit<, pow_pos, pow_mono, pow-add}
+use Rattle.std.proofs.Common.{◌≡◌, ℕ, ◌+◌, ◌-◌, ◌*◌, ◌^◌, ◌<◌, ◌≤◌, sym, ap, ◌∙◌, mul-le-mul_right, mul_assoc, mul-lt-mul_of_pos_right, arith, lit<, pow_pos, pow_mono, pow-add}
 use Rattle.exact.specs.Power.{AtMost, AtLeast}
 use Rattle.exact.proofs.Exponents.{less_of_larger, more_of_smaller}
 use Rattle.fixed.proofs.Rounding.{Placed}

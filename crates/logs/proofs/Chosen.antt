@@ -1,5 +1,5 @@
 -- The digits that the program chooses are those of the nearest float: the first digits tell, or the comparison with the middle's power. Assumes nothing.
-use Rattle.std.proofs.Common.{◌≡◌, ℕ, ◌+◌, ◌-◌, ◌*◌, ◌/◌, ◌%◌, ◌^◌, ◌<◌, ◌≤◌, Bool, true, false, cond, ltb, sym, refl, ap, ◌∙◌, subst, inl, inr, le_trans, le_of_eq, add-zero, mul-le-mul_right, mul_assoc, add-mul, mul-le-mul_left, mul-lt-mul_of_pos_right, mul-pos, arith, lit<, pow_pos, pow_mono, pow-add, ltb-false, ltb-true, le-ltb, lt-ltb}
+use Rattle.std.proofs.Common.{◌≡◌, ℕ, ◌+◌, ◌-◌, ◌*◌, ◌/◌, ◌%◌, ◌^◌, ◌<◌, ◌≤◌, Bool, true, false, cond, sym, refl, ap, ◌∙◌, subst, inl, inr, le_trans, le_of_eq, add-zero, mul-le-mul_right, mul_assoc, add-mul, mul-le-mul_left, mul-lt-mul_of_pos_right, mul-pos, arith, lit<, pow_pos, pow_mono, pow-add, ltb-false, ltb-true, le-ltb, lt-ltb}
 use Rattle.units.proofs.Naturals.{le-or-lt}
 use Rattle.exact.specs.Power.{LessThan, MoreThan}
 use Rattle.exact.proofs.Exponents.{less-larger, more_smaller, less_mirrored, more_mirrored}

@@ -1,5 +1,5 @@
 -- Where the middle's power is known to 58 digits, and keeps 2 ^ -53 off every float, one comparison tells on which side of the middle the logarithm is. Assumes nothing.
-use Rattle.std.proofs.Common.{◌≡◌, ℕ, ◌+◌, ◌-◌, ◌*◌, ◌^◌, ◌<◌, ◌≤◌, sym, refl, ap, le_of_eq, mul-le-mul_right, mul-lt-mul_of_pos_right, mul-pos, le_of_mul-le-mul_right, arith, lit<, pow_pos}
+use Rattle.std.proofs.Common.{◌≡◌, ℕ, ◌+◌, ◌-◌, ◌*◌, ◌^◌, ◌<◌, ◌≤◌, sym, ap, le_of_eq, mul-pos, le_of_mul-le-mul_right, arith, lit<, pow_pos}
 use Rattle.exact.specs.Power.{AtMost, AtLeast, LessThan, MoreThan}
 use Rattle.exact.proofs.Power.{most_of_larger, least_of_smaller, most_shift, least_shift, through_power}
 use Rattle.exact.proofs.Strict.{less_of_less, more_of_more}

@@ -1,6 +1,6 @@
 -- The fraction v / C of a middle of two results keeps off the floats: of results from 1 / 2 on it is one of 2 ^ 25 fractions, of smaller ones the result itself or what it lacks to 1.
 -- Assumes nothing.
-use Rattle.std.proofs.Common.{◌≡◌, ℕ, ◌+◌, ◌-◌, ◌*◌, ◌^◌, ◌<◌, ◌≤◌, sym, refl, ap, ◌∙◌, subst, inl, inr, le_of_eq, lt_of_lt_of_le, mul_assoc, mul_comm, mul-lt-mul_of_pos_right, mul-pos, arith, lit<, pow_pos, pow-add}
+use Rattle.std.proofs.Common.{◌≡◌, ℕ, ◌+◌, ◌-◌, ◌*◌, ◌^◌, ◌<◌, ◌≤◌, sym, ap, ◌∙◌, subst, inl, inr, le_of_eq, lt_of_lt_of_le, mul_assoc, mul_comm, mul-lt-mul_of_pos_right, mul-pos, arith, lit<, pow_pos, pow-add}
 use Rattle.units.proofs.Naturals.{le-or-lt}
 use Rattle.exact.proofs.Power.{most_of_larger, least_of_smaller}
 use Rattle.gaps.specs.Apart.{Apart, above, below, OffFloats}

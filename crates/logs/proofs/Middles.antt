@@ -1,11 +1,11 @@
 -- A logarithm between the middles of a float and its neighbours: that float is the nearest, and within 2 ^ -24 of it. Assumes nothing.
-use Rattle.std.proofs.Common.{◌≡◌, ℕ, ◌+◌, ◌-◌, ◌*◌, ◌^◌, ◌<◌, ◌≤◌, false, ◌⊎◌, sym, refl, ◌∙◌, subst, inl, inr, mul-le-mul_right, eq-or-lt_of_le, mul-lt-mul_of_pos_right, arith, lit<, pow_pos}
+use Rattle.std.proofs.Common.{◌≡◌, ℕ, ◌+◌, ◌-◌, ◌*◌, ◌^◌, ◌<◌, ◌≤◌, false, ◌⊎◌, sym, refl, subst, inl, inr, mul-le-mul_right, eq-or-lt_of_le, mul-lt-mul_of_pos_right, arith, lit<, pow_pos}
 use lib.Ieee.{Float, neg}
 use Rattle.units.specs.Units.{P, N, Number, Lt}
 use Rattle.units.proofs.Opposite.{opposite, opposite-plus, opposite-minus}
 use Rattle.units.proofs.Bits.{Is}
 use Rattle.fixed.proofs.Nearest.{Middle, nearest-above, nearest-below}
-use Rattle.exact.specs.Power.{AtMost, AtLeast, LessThan, MoreThan}
+use Rattle.exact.specs.Power.{AtLeast, LessThan, MoreThan}
 use Rattle.exact.proofs.Power.{most_of_larger, least_of_smaller}
 use Rattle.exact.proofs.Strict.{less-most, more-least}
 use Rattle.exact.proofs.Exponents.{more_of_smaller, less_wider, more_narrower, less_mirrored, more_mirrored}

@@ -1,6 +1,6 @@
 -- The middle that is near a logarithm has its whole part: no whole number lies between them, since a middle is an odd number of half steps and whole numbers are even ones. So its
 -- fraction is what the program makes of it. Assumes nothing.
-use Rattle.std.proofs.Common.{◌≡◌, ℕ, suc, ◌+◌, ◌-◌, ◌*◌, ◌/◌, ◌%◌, ◌^◌, ◌<◌, ◌≤◌, sym, refl, ap, ◌∙◌, subst, le_trans, le_of_eq, lt_of_lt_of_le, mul-le-mul_right, mod-eq_of_lt, mul_assoc, add-mul, mul-lt-mul_of_pos_right, arith, pow_pos, pow-add}
+use Rattle.std.proofs.Common.{◌≡◌, ℕ, ◌+◌, ◌-◌, ◌*◌, ◌%◌, ◌^◌, ◌<◌, ◌≤◌, sym, ap, ◌∙◌, le_of_eq, lt_of_lt_of_le, mod-eq_of_lt, add-mul, mul-lt-mul_of_pos_right, arith}
 use native.Mathlib.Nat.{add-mul-mod_self_right}
 
 -- an odd number M of half steps, of which 2 c are 1, is v more than e: above log2 1

@@ -1,5 +1,5 @@
 -- Rounding: the pattern of the float that is made of a logarithm in fixed point, n steps of 2 ^ -54 from log2 1, and of 24 digits. Assumes nothing.
-use Rattle.std.proofs.Common.{◌≡◌, ℕ, ◌+◌, ◌-◌, ◌*◌, ◌/◌, ◌%◌, ◌^◌, ◌<◌, ◌≤◌, Bool, true, false, cond, eqb, ltb, sym, refl, ap, ◌∙◌, subst, inl, inr, le_trans, mul-le-mul_right, eq-zero-or-pos, arith, lit≤, pow-add, le-ltb, lt-ltb, eq-eqb, ne_eqb}
+use Rattle.std.proofs.Common.{◌≡◌, ℕ, ◌+◌, ◌-◌, ◌*◌, ◌/◌, ◌%◌, ◌^◌, ◌<◌, ◌≤◌, Bool, true, false, cond, ltb, sym, refl, ap, ◌∙◌, subst, inl, inr, le_trans, mul-le-mul_right, eq-zero-or-pos, arith, lit≤, le-ltb, lt-ltb, eq-eqb, ne_eqb}
 use lib.Count.{count_leading_zeros}
 use lib.Ieee.{binary32, of_bits, to_bits}
 use Rattle.units.proofs.Bits.{Is, sign_bit, put, no_nan}

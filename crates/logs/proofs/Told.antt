@@ -1,11 +1,10 @@
 -- What the first digits tell of a logarithm: where no middle is as near as they may be off, the nearest float.
 -- Assumes nothing.
-use Rattle.std.proofs.Common.{◌≡◌, ℕ, suc, ◌+◌, ◌-◌, ◌*◌, ◌/◌, ◌%◌, ◌^◌, ◌<◌, ◌≤◌, Bool, true, false, cond, ltb, ◌⊎◌, sym, refl, ap, ◌∙◌, subst, inl, inr, le_of_eq, mul_assoc, mul-lt-mul_of_pos_right, pow-suc, arith, lit<, pow_pos, pow-add, ltb-false, ltb-true}
+use Rattle.std.proofs.Common.{◌≡◌, ℕ, suc, ◌+◌, ◌-◌, ◌*◌, ◌/◌, ◌%◌, ◌^◌, ◌<◌, ◌≤◌, Bool, true, false, cond, ltb, ◌⊎◌, refl, ap, ◌∙◌, subst, inl, inr, le_of_eq, pow-suc, arith, lit<, pow-add, ltb-false, ltb-true}
 use Rattle.units.proofs.Naturals.{le-or-lt}
-use Rattle.exact.specs.Power.{AtMost, AtLeast, LessThan, MoreThan}
+use Rattle.exact.specs.Power.{AtLeast, LessThan, MoreThan}
 use Rattle.exact.proofs.Power.{least_of_smaller}
 use Rattle.exact.proofs.Strict.{more-least}
-use Rattle.exact.proofs.Exponents.{less_of_larger, more_of_smaller}
 use Rattle.fixed.proofs.Rounding.{Placed}
 use Rattle.logs.specs.Value.{width_of, is_left_open}
 use Rattle.logs.proofs.Middles.{Q, Rounds, Found}

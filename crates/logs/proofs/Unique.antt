@@ -1,5 +1,5 @@
 -- One right answer for each input: two finite floats that are both nearest to log2 x are the same number. (That of the two zeros it is +0 at 1 is a promise of its own.) Assumes nothing.
-use Rattle.std.proofs.Common.{ℕ, ◌+◌, ◌*◌, ◌^◌, inl, inr, add_comm}
+use Rattle.std.proofs.Common.{◌+◌, inl, inr, add_comm}
 use lib.Ieee.{Float}
 use Rattle.units.specs.Units.{P, N, Number, Le, Lt}
 use Rattle.units.proofs.Naturals.{le-or-lt}

@@ -1,5 +1,7 @@
 // log2: whole numbers inside, one rounding at the end.
 
+#![tactic(auto)]
+
 mod rows;
 
 ghost use Rattle.std.specs.Prelude.{◌≡◌, ◌+◌, ◌-◌, ◌*◌, ◌/◌, ◌^◌, ◌<◌, ◌≤◌, true};

@@ -1,12 +1,12 @@
 -- The promise of the map with a knee: two segments of one law. Assumes nothing.
-use Rattle.std.proofs.Common.{◌≡◌, ℕ, ◌<◌, ◌≤◌, ◌⊎◌, sym, refl, ◌∙◌, subst, inl, inr, le_trans, le_of_eq, lt_of_lt_of_le, lt_of_le_of_lt, le_of_lt, not-le_of_lt, arith, pow_pos, le-leb}
+use Rattle.std.proofs.Common.{◌≡◌, ℕ, ◌<◌, ◌≤◌, ◌⊎◌, sym, refl, ◌∙◌, inl, inr, le_trans, le_of_eq, lt_of_lt_of_le, le_of_lt, not-le_of_lt, arith, pow_pos, le-leb}
 use borrow.Author.Tests.{lt-leb}
 use lib.Ieee.{Float}
-use Rattle.units.specs.Units.{Number, P}
+use Rattle.units.specs.Units.{P}
 use Rattle.units.specs.Answers.{Ends, itself}
 use Rattle.units.proofs.Answers.{written, untouched}
 use Rattle.units.proofs.Naturals.{le-or-lt}
-use Rattle.loudness.specs.Map.{Channel, Envelope, Loudness}
+use Rattle.loudness.specs.Map.{Envelope, Loudness}
 use Rattle.loudness.specs.Knee.{BentChannel, LoudnessKnee}
 use Rattle.loudness.specs.Value.{step_of, knee_of}
 use Rattle.loudness.proofs.Growth.{never_falls}

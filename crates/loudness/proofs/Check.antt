@@ -1,5 +1,5 @@
 -- The check of a segment's words: six words, their sum, and what a changed word does to it. Assumes nothing.
-use Rattle.std.proofs.Common.{◌≡◌, ℕ, zero, suc, ◌+◌, ◌-◌, ◌*◌, ◌/◌, ◌%◌, ◌^◌, ◌<◌, ◌≤◌, List, [], ◌∷◌, length, get_or, take, drop, set, sym, refl, ap, ◌∙◌, subst, le_of_eq, arith, length-drop, take_all}
+use Rattle.std.proofs.Common.{◌≡◌, ℕ, zero, suc, ◌+◌, ◌-◌, ◌%◌, ◌^◌, ◌<◌, List, [], ◌∷◌, length, get_or, take, drop, set, refl, ap, ◌∙◌, le_of_eq, arith, length-drop, take_all}
 use Rattle.loudness.specs.Words.{total, check_sum, check_of, five_words, Passes}
 use Rattle.loudness.specs.Fitted.{Changed}
 

@@ -1,5 +1,5 @@
 -- The step by the words of a segment: between its steps whatever the words are, and of the words of a segment the map's. Assumes nothing.
-use Rattle.std.proofs.Common.{◌≡◌, ℕ, suc, ◌+◌, ◌-◌, ◌*◌, ◌/◌, ◌%◌, ◌^◌, ◌<◌, ◌≤◌, ◌⊎◌, List, length, get_or, sym, refl, ap, ◌∙◌, ap₂, inl, inr, le_trans, le_of_eq, le_refl, lt_of_lt_of_le, lt_of_le_of_lt, le_of_lt, mul-le-mul_right, mul-le-mul, eq-or-lt_of_le, not-le_of_lt, arith, lit<, pow_mono, le-leb}
+use Rattle.std.proofs.Common.{◌≡◌, ℕ, suc, ◌+◌, ◌-◌, ◌*◌, ◌/◌, ◌%◌, ◌^◌, ◌<◌, ◌≤◌, ◌⊎◌, List, length, get_or, sym, refl, ap, ◌∙◌, ap₂, inl, inr, le_trans, le_of_eq, lt_of_le_of_lt, le_of_lt, mul-le-mul_right, mul-le-mul, eq-or-lt_of_le, not-le_of_lt, arith, lit<, pow_mono, le-leb}
 use borrow.Author.Tests.{lt-leb}
 use lib.Ieee.{Float, binary32, to_bits}
 use Rattle.units.specs.Units.{P}

@@ -1,5 +1,5 @@
 -- What is known of levels, from the logarithm in fixed point: 3 / 2 ^ 32 off, in steps of 2 ^ -54. Assumes nothing.
-use Rattle.std.proofs.Common.{◌≡◌, ℕ, ◌+◌, ◌-◌, ◌*◌, ◌^◌, ◌<◌, ◌≤◌, sym, ap, subst, inl, inr, le_trans, le_of_eq, lt_of_lt_of_le, mul-le-mul_right, not-le_of_lt, arith, lit<, lit≤, pow_pos, pow_mono}
+use Rattle.std.proofs.Common.{◌≡◌, ℕ, ◌+◌, ◌*◌, ◌^◌, ◌<◌, ◌≤◌, subst, inl, inr, le_trans, le_of_eq, lt_of_lt_of_le, mul-le-mul_right, not-le_of_lt, arith, pow_pos, pow_mono}
 use lib.Ieee.{Float}
 use Rattle.exact.specs.Power.{AtMost, AtLeast}
 use Rattle.exact.proofs.Power.{most_of_larger}

@@ -1,5 +1,5 @@
 -- The promise of the loudness map, joined from its pieces. Assumes nothing.
-use Rattle.std.proofs.Common.{◌≡◌, ℕ, ◌+◌, ◌-◌, ◌*◌, ◌^◌, ◌<◌, ◌≤◌, refl, inl, inr, lt_of_lt_of_le, mul-le-mul_right, arith, pow_pos, le-leb}
+use Rattle.std.proofs.Common.{◌≡◌, ℕ, ◌+◌, ◌-◌, ◌*◌, ◌<◌, ◌≤◌, refl, inl, inr, lt_of_lt_of_le, mul-le-mul_right, arith, pow_pos, le-leb}
 use borrow.Author.Tests.{lt-leb}
 use lib.Ieee.{Float}
 use Rattle.units.specs.Units.{P}

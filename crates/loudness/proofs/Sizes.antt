@@ -1,5 +1,5 @@
 -- The tests of a channel's levels and of an envelope value, on patterns: these are in the order of the sizes. Assumes nothing.
-use Rattle.std.proofs.Common.{◌≡◌, ℕ, suc, ◌+◌, ◌-◌, ◌*◌, ◌/◌, ◌%◌, ◌^◌, ◌<◌, ◌≤◌, Bool, true, false, cond, T, eqb, leb, ◌⊎◌, sym, refl, ap, ◌∙◌, subst, inl, inr, le_trans, le_of_eq, lt_of_lt_of_le, lt_of_le_of_lt, le_of_lt, lt_irrefl, mul-le-mul_left, pow-suc, zero-mul, not-le_of_lt, arith, pow_pos, eq-eqb, ne_eqb, eqb-true, leb-false, leb-true}
+use Rattle.std.proofs.Common.{◌≡◌, ℕ, suc, ◌+◌, ◌-◌, ◌*◌, ◌/◌, ◌%◌, ◌^◌, ◌<◌, ◌≤◌, Bool, true, false, cond, T, eqb, leb, sym, refl, ap, ◌∙◌, subst, inl, inr, le_trans, le_of_eq, lt_of_lt_of_le, lt_irrefl, mul-le-mul_left, pow-suc, zero-mul, not-le_of_lt, arith, pow_pos, eq-eqb, ne_eqb, eqb-true, leb-false, leb-true}
 use lib.Ieee.{Float, binary32, fits, to_bits}
 use Rattle.units.specs.Units.{mag, negative, P, N, Number}
 use Rattle.units.specs.Tests.{Tells}

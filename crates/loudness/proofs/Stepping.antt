@@ -1,9 +1,9 @@
 -- The promises of fitting and of stepping, joined from their pieces. Assumes nothing.
-use Rattle.std.proofs.Common.{◌≡◌, ℕ, zero, suc, ◌+◌, ◌-◌, ◌*◌, ◌/◌, ◌%◌, ◌^◌, ◌<◌, ◌≤◌, ◌⊎◌, List, [], ◌∷◌, ◌++◌, length, get_or, take, drop, set, sym, refl, ap, ◌∙◌, subst, inl, inr, le_of_eq, arith, length-drop, length-set, length-take-le, take_all}
+use Rattle.std.proofs.Common.{◌≡◌, ℕ, ◌+◌, ◌-◌, ◌<◌, ◌≤◌, List, [], length, take, drop, sym, refl, ap, ◌∙◌, subst, inl, inr, le_of_eq, arith, length-drop, length-set, length-take-le, take_all}
 use lib.Ieee.{Float}
 use Rattle.units.specs.Answers.{Ends, itself}
 use Rattle.units.proofs.Answers.{written, untouched}
-use Rattle.loudness.specs.Map.{Channel, Envelope, Loudness}
+use Rattle.loudness.specs.Map.{Channel, Envelope}
 use Rattle.loudness.specs.Segment.{Segment, size_bits}
 use Rattle.loudness.specs.Words.{Passes, BentPasses, Answered, Chosen, step_in, bent_in, five_words, segment_words}
 use Rattle.loudness.specs.Fitted.{fitted_of, fitted_knee, as_they_are, Fits, Changed, Step}

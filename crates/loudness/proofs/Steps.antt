@@ -1,6 +1,6 @@
 -- The map on whole numbers: a quotient to the nearest whole number, and what bounds on three logarithms then say of the exact map.
 -- The number of steps k is any number: the constant num / den says how many the errors allow. Assumes nothing.
-use Rattle.std.proofs.Common.{◌≡◌, ℕ, ◌+◌, ◌-◌, ◌*◌, ◌^◌, ◌<◌, ◌≤◌, ◌⊎◌, ap, inl, inr, mul-le-mul_right, mul-le-mul_left, le_of_mul-le-mul_right, arith}
+use Rattle.std.proofs.Common.{◌≡◌, ℕ, ◌+◌, ◌-◌, ◌*◌, ◌^◌, ◌<◌, ◌≤◌, ◌⊎◌, inl, inr, mul-le-mul_right, mul-le-mul_left, le_of_mul-le-mul_right, arith}
 use native.Mathlib.Nat.{pow-zero, pow-le-pow_left}
 use Rattle.exact.specs.Power.{AtMost, AtLeast}
 use Rattle.exact.proofs.Power.{most_of_less, least_of_more, most_shift, least_shift}

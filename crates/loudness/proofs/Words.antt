@@ -1,8 +1,8 @@
 -- The words of two rises, and their quotient times the number of steps, to the nearest whole number: what is cut off of the rises is little, and a larger rise
 -- gives no smaller step. Assumes nothing.
-use Rattle.std.proofs.Common.{◌≡◌, ℕ, suc, ◌+◌, ◌-◌, ◌*◌, ◌/◌, ◌^◌, ◌<◌, ◌≤◌, sym, refl, ap, ◌∙◌, le_trans, le_of_eq, le_refl, lt_of_lt_of_le, lt_of_le_of_lt, add-le-add, mul-le-mul_right, div-lt_iff_lt-mul, mul-le-mul_left, mul-pos, div-mul-le_self, le_of_mul-le-mul_right, arith, lit<, pow_pos, pow_mono, pow-add}
+use Rattle.std.proofs.Common.{◌≡◌, ℕ, suc, ◌+◌, ◌*◌, ◌/◌, ◌^◌, ◌<◌, ◌≤◌, sym, ap, ◌∙◌, le_trans, le_of_eq, le_refl, lt_of_le_of_lt, add-le-add, mul-le-mul_right, div-lt_iff_lt-mul, mul-le-mul_left, div-mul-le_self, le_of_mul-le-mul_right, arith, lit<, pow_pos, pow-add}
 use native.Mathlib.Nat.{lt-div-mul-add}
-use lib.Count.{count_leading_zeros, leading_top}
+use lib.Count.{leading_top}
 use lib.Ieee.Nearest.{div_mono}
 use Rattle.units.proofs.Naturals.{pow_back_lt}
 use Rattle.loudness.specs.Value.{places_of, word_of, nearest_step, steps_of}

@@ -1,6 +1,8 @@
 // The loudness map: from an envelope value to a current step, straight in the logarithm between threshold and comfort.
 // Levels are compared by their patterns, which are in the order of their sizes.
 
+#![tactic(auto)]
+
 pub mod fitted;
 pub mod knee;
 

@@ -1,5 +1,5 @@
 -- `logs::digits` meets its contract: the first digits tell, or are settled. Assumes nothing.
-use Rattle.std.proofs.Common.{◌≡◌, ◌≤◌, true, false, refl, arith, rules, le-ltb, lt-ltb}
+use Rattle.std.proofs.Common.{◌≡◌, ◌≤◌, true, false, refl, arith, le-ltb, lt-ltb}
 use Rattle.logs.specs.Value.{width_of, is_left_open, log2_digits}
 use Rattle.logs.proofs.Told.{width_most}
 use Rattle.logs.proofs.digits.Goals.{After-width-h, Else-u-h, Then-u-h}

@@ -1,8 +1,8 @@
 -- `logs::fixed_bits` meets its contract: what wraps comes out right, since the value is a word. Assumes nothing.
-use Rattle.std.proofs.Common.{◌≡◌, ℕ, ◌+◌, ◌-◌, ◌*◌, ◌/◌, ◌%◌, ◌^◌, ◌<◌, ◌≤◌, refl, ap, inl, inr, le_of_lt, mul-le-mul, arith, rules}
+use Rattle.std.proofs.Common.{◌≡◌, ℕ, ◌+◌, ◌-◌, ◌*◌, ◌%◌, ◌<◌, ◌≤◌, refl, ap, inl, inr, le_of_lt, mul-le-mul, arith, rules}
 use Rattle.units.proofs.Naturals.{le-or-lt}
-use Rattle.logs.specs.Value.{slope, nearer, Upper, fixed_bits}
-use Rattle.logs.proofs.Reduction.{slope_fits, no_borrow, octave}
+use Rattle.logs.specs.Value.{nearer, Upper, fixed_bits}
+use Rattle.logs.proofs.Reduction.{no_borrow, octave}
 use Rattle.logs.proofs.fixed_bits.Goals as goal
 
 pub overflow_mul-d : goal.overflow_mul-d
@@ -34,5 +34,5 @@ returns c =
     let o = (octave b).1 in
     let l = c.requires in
     joined b c.slope-p.result (nearer b) c.wrapping_sub_u32-d.result c.upper-h.result c.wrapping_add_u64.result (fixed_bits b)
-    l (omega arith) (search rules) (search rules) (search rules) c.wrapping_sub_u32-d.ensures c.upper-h.ensures
-    (rw e (no_borrow b)) (rw e refl) (omega arith) c.wrapping_add_u64.ensures
+    l (omega arith) (search rules) (search rules) (search rules) c.wrapping_sub_u32-d.ensures.value c.upper-h.ensures
+    (rw e (no_borrow b)) (rw e refl) (omega arith) c.wrapping_add_u64.ensures.value

@@ -1,8 +1,8 @@
 -- `logs::rounded` meets its contract: digits that are not within 8 of a middle are not open. Assumes nothing.
-use Rattle.std.proofs.Common.{◌≡◌, ℕ, ◌+◌, ◌-◌, ◌*◌, ◌/◌, ◌%◌, ◌^◌, ◌<◌, ◌≤◌, false, sym, refl, ◌∙◌, subst, arith, rules, le-ltb}
+use Rattle.std.proofs.Common.{◌≡◌, ℕ, ◌+◌, ◌*◌, ◌/◌, ◌%◌, ◌≤◌, refl, arith, le-ltb}
 use lib.Count.{count_leading_zeros}
 use Rattle.fixed.proofs.Rounding.{Placed, placed}
-use Rattle.logs.specs.Value.{distance_of, first_word, width_of, is_left_open, log2_digits, rounded_bits, sign_of}
+use Rattle.logs.specs.Value.{first_word, width_of, is_left_open, log2_digits}
 use Rattle.logs.proofs.Rounding.{sign-few, together}
 use Rattle.logs.proofs.Told.{width_most}
 use Rattle.logs.proofs.rounded.Goals.{After-first_word-f}

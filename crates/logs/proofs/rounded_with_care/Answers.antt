@@ -1,8 +1,8 @@
 -- `logs::rounded_with_care` meets its contract: sign, exponent and digits do not meet. Assumes nothing.
-use Rattle.std.proofs.Common.{◌≡◌, ℕ, ◌+◌, ◌-◌, ◌*◌, ◌/◌, ◌^◌, ◌<◌, ◌≤◌, true, sym, refl, ◌∙◌, subst, zero-le, le_trans, le_antisymm, lt_of_not-le, arith, rules}
+use Rattle.std.proofs.Common.{◌≡◌, ℕ, ◌^◌, ◌<◌, ◌≤◌, sym, ◌∙◌, zero-le, le_trans, le_antisymm, lt_of_not-le, arith}
 use lib.Count.{count_leading_zeros}
 use Rattle.fixed.proofs.Rounding.{Placed, placed}
-use Rattle.logs.specs.Value.{distance_of, first_word, width_of, is_left_open, log2_digits, rounded_bits, sign_of}
+use Rattle.logs.specs.Value.{distance_of, first_word, width_of}
 use Rattle.logs.proofs.Rounding.{none-bits, digits-few, sign-few, together}
 use Rattle.logs.proofs.Told.{width_most, few_zeros}
 use Rattle.logs.proofs.rounded_with_care.Goals.{After-digits, After-first_word-f}

@@ -1,5 +1,5 @@
 -- `logs::settled` meets its contract: four cases, of the sign and of the comparison. Assumes nothing.
-use Rattle.std.proofs.Common.{◌≡◌, ℕ, ◌/◌, ◌%◌, ◌<◌, ◌≤◌, true, false, ltb, sym, refl, ap, ◌∙◌, add-zero, arith, rules, le-ltb, lt-ltb}
+use Rattle.std.proofs.Common.{◌≡◌, ◌/◌, ◌%◌, ◌<◌, ◌≤◌, true, false, sym, refl, ap, ◌∙◌, add-zero, le-ltb, lt-ltb}
 use Rattle.fine.specs.Value.{fine_of}
 use Rattle.logs.specs.Value.{log_of_one, fraction_of, is_above, settled_digits}
 use Rattle.logs.proofs.settled.Goals.{After-fine}

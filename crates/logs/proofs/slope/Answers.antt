@@ -1,5 +1,5 @@
 -- `logs::slope` meets its contract: four steps are Horner's rule on the row. Assumes nothing.
-use Rattle.std.proofs.Common.{◌-◌, ◌*◌, ◌%◌, sym, arith, rules}
+use Rattle.std.proofs.Common.{◌-◌, ◌*◌, ◌%◌, sym, arith}
 use Rattle.fixed.proofs.Horner.{horner-one, horner_step}
 use Rattle.logs.specs.Value.{slope}
 use Rattle.logs.proofs.slope.Goals as goal

@@ -1,5 +1,5 @@
 -- `logs::step` meets its contract: the upper half of the product is below v. Assumes nothing.
-use Rattle.std.proofs.Common.{◌*◌, ◌^◌, ◌≤◌, refl, mul-le-mul, arith}
+use Rattle.std.proofs.Common.{◌*◌, ◌≤◌, refl, mul-le-mul, arith}
 use Rattle.logs.proofs.step.Goals.{Start}
 use Rattle.logs.proofs.step.Goals as goal
 

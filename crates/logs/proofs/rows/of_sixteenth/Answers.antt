@@ -1,17 +1,8 @@
 -- `logs::rows::of_sixteenth` meets its contract: each arm is the row of its number. Assumes nothing.
-use Rattle.std.proofs.Common.{◌≡◌, ℕ, zero, suc, ◌-◌, ◌^◌, ◌≤◌, Bool, ◌&&◌, T, ltb, [], ◌∷◌, sym, refl, ap, ◌∙◌, inl, inr, zero-le, le_of_suc-le-suc, le_antisymm, eq-or-lt_of_le, arith, ltb→lt}
+use Rattle.std.proofs.Common.{◌≡◌, ℕ, ◌-◌, ◌^◌, Bool, ◌&&◌, T, ltb, [], ◌∷◌, sym, refl, ap, ◌∙◌, arith, ltb→lt}
 use lib.Ieee.Fits.{and_l, and_r}
 use Rattle.logs.specs.Rows.{row, IsRow}
 use Rattle.logs.proofs.rows.of_sixteenth.Goals as goal
-
--- i is none of the first k numbers, as the last arm knows it
-abbrev None : ℕ → ℕ → Type 0
-None zero i = Unit {0}
-None (suc k) i = None k i × (i ≡ k → ⊥)
-
-beyond : (k i : ℕ) → None k i → k ≤ i
-beyond zero i n = zero-le
-beyond (suc k) i (n, other) = elim (eq-or-lt_of_le (beyond k i n)) [ inl e ↦ absurd (other (sym e)) | inr l ↦ l ]
 
 -- what is below the room in a word
 abbrev below : ℕ → Bool
@@ -75,4 +66,4 @@ pub returns-in-14 : goal.returns-in-14
 returns-in-14 c = arm 14 c.args.i (omega arith) refl tt
 
 pub returns-in_default : goal.returns-in_default
-returns-in_default c = arm 15 c.args.i (le_antisymm (le_of_suc-le-suc c.requires) (beyond 15 c.args.i c.in_default.rest)) refl tt
+returns-in_default c = arm 15 c.args.i (omega arith) refl tt

@@ -1,11 +1,11 @@
 -- `loudness::nearest_step` meets its contract: the quotient of the upper digits by the next divisor is at most 1 too small. Assumes nothing.
-use Rattle.std.proofs.Common.{◌≡◌, ℕ, suc, ◌+◌, ◌-◌, ◌*◌, ◌/◌, ◌^◌, ◌<◌, ◌≤◌, sym, inl, inr, mul-le-mul_right, div-lt_iff_lt-mul, mul-le-mul, le_antisymm, mul-le-mul_left, le-div_iff_mul-le, div-mul-le_self, arith}
+use Rattle.std.proofs.Common.{◌≡◌, ℕ, suc, ◌+◌, ◌-◌, ◌*◌, ◌/◌, ◌<◌, ◌≤◌, sym, inl, inr, mul-le-mul_right, div-lt_iff_lt-mul, mul-le-mul, le_antisymm, mul-le-mul_left, le-div_iff_mul-le, div-mul-le_self, arith}
 use native.Mathlib.Nat.{lt-div-mul-add}
 use Rattle.units.proofs.Naturals.{le-or-lt}
 use Rattle.loudness.specs.Value.{nearest_step}
 use Rattle.loudness.specs.Segment.{Quotient}
-use Rattle.loudness.proofs.nearest_step.Statement.{statement}
-use Rattle.loudness.proofs.nearest_step.Tie as tie
+use Rattle.loudness.proofs.nearest_step.Goals.{Start}
+use Rattle.loudness.proofs.nearest_step.Goals as goal
 
 -- a quotient from its two bounds
 is-quotient : (p h q : ℕ) → 0 < h → q * h ≤ p → p < suc q * h → p / h ≡ q
@@ -85,44 +85,35 @@ module _ (k n h : ℕ) (qu : Quotient k n h) where
       next q a = omega arith
 
 -- ---- the words
-word : (c : tie.Start) → c.args.k * c.args.n + c.args.h / 2 < 8796093022208
+word : (c : Start) → c.args.k * c.args.n + c.args.h / 2 < 8796093022208
 word c = p-few c.args.k c.args.n c.args.h c.requires
 
-mul-p : tie.Need-overflow-mul-p
-mul-p c = omega (arith, product c.args.k c.args.n c.args.h c.requires, c.requires.word)
+pub overflow_mul-p : goal.overflow_mul-p
+overflow_mul-p c = omega (arith, product c.args.k c.args.n c.args.h c.requires, c.requires.word)
 
-cast-p : tie.Need-overflow-cast-p
-cast-p c = omega arith
+pub overflow_add-p : goal.overflow_add-p
+overflow_add-p c = omega (arith, word (goal.at.overflow_add-p c).Start)
 
-add-p : tie.Need-overflow-add-p
-add-p c = omega (arith, word c)
+pub overflow_cast-q : goal.overflow_cast-q
+overflow_cast-q c = omega (arith, word (goal.at.overflow_cast-q c).Start)
 
-cast-q : tie.Need-overflow-cast-q
-cast-q c = omega (arith, word c)
+pub overflow_add-q : goal.overflow_add-q
+overflow_add-q c = omega (arith, c.requires.word)
 
-add-q : tie.Need-overflow-add-q
-add-q c = omega (arith, c.requires.word)
+pub overflow_cast-q-2 : goal.overflow_cast-q-2
+overflow_cast-q-2 c = omega (arith, q-few c.args.k c.args.n c.args.h c.requires)
 
-div-q : tie.Need-nonzero-div-q
-div-q c = omega arith
+pub overflow_mul-q : goal.overflow_mul-q
+overflow_mul-q c = omega (arith, word (goal.at.overflow_mul-q c).Start, q-below c.args.k c.args.n c.args.h c.requires)
 
-cast-if1 : tie.Need-overflow-cast-if1
-cast-if1 c = omega (arith, q-few c.args.k c.args.n c.args.h c.requires)
+pub overflow_sub-p : goal.overflow_sub-p
+overflow_sub-p c = q-below c.args.k c.args.n c.args.h c.requires
 
-mul-if1 : tie.Need-overflow-mul-if1
-mul-if1 c = omega (arith, word c, q-below c.args.k c.args.n c.args.h c.requires)
+pub returns-then-p-q : goal.returns-then-p-q
+returns-then-p-q c = exact c.args.k c.args.n c.args.h c.requires c.if-p-q.true
 
-sub-if1 : tie.Need-overflow-sub-if1
-sub-if1 c = q-below c.args.k c.args.n c.args.h c.requires
+pub overflow_add-result : goal.overflow_add-result
+overflow_add-result c = omega (arith, q-few c.args.k c.args.n c.args.h c.requires)
 
-returns : tie.Need-returns
-returns c = let s = c.before in exact s.args.k s.args.n s.args.h s.requires c.if1.true
-
-add-result : tie.Need-overflow-add-result
-add-result c = let s = c.before in omega (arith, q-few s.args.k s.args.n s.args.h s.requires)
-
-returns-2 : tie.Need-returns-2
-returns-2 c = let s = c.before in one_more s.args.k s.args.n s.args.h s.requires c.if1.false
-
-pub nearest-step-spec : {M : Type 1} → statement M
-nearest-step-spec = tie.close (tie.spec mul-p cast-p add-p cast-q add-q div-q cast-if1 mul-if1 sub-if1 returns add-result returns-2)
+pub returns : goal.returns
+returns c = one_more c.args.k c.args.n c.args.h c.requires c.if-p-q.false
