@@ -12,8 +12,7 @@ use Rattle.powers.specs.Exp.{Accepts}
 use Rattle.powers.specs.Base.{Base, PowerAtMost, most-two, most-natural, PowerAtLeast, least-two, least-natural}
 use Rattle.powers.specs.Fixed.{argument_of}
 use Rattle.powers.proofs.Method.{D}
-use Rattle.powers.proofs.Reduction.{most_uncut, least_uncut, cut_top, cut_mono}
-use Rattle.powers.proofs.NaturalTaken.{natural-top}
+use Rattle.powers.proofs.Reduction.{most_uncut, least_uncut, cut_mono}
 use Rattle.powers.proofs.NaturalReduction.{most-natural_uncut, least-natural_uncut, natural_mono}
 
 -- ---- fractions

@@ -1,5 +1,5 @@
 -- Open digits: the second evaluation is 63 units of 2 ^ -64 below the power at most, and the middles are 64 away, so that its digits tell the nearest float. Assumes nothing.
-use Rattle.std.proofs.Common.{◌≡◌, ℕ, ◌+◌, ◌-◌, ◌*◌, ◌/◌, ◌^◌, ◌<◌, ◌≤◌, sym, ap, subst, le_of_eq, mul-pos, le_of_mul-le-mul_right, arith, lit<, pow_pos}
+use Rattle.std.proofs.Common.{◌≡◌, ℕ, ◌+◌, ◌-◌, ◌*◌, ◌^◌, ◌<◌, ◌≤◌, sym, ap, subst, le_of_eq, mul-pos, le_of_mul-le-mul_right, arith, lit<, pow_pos}
 use lib.Ieee.{Float}
 use Rattle.units.specs.Units.{P, N}
 use Rattle.exact.specs.Power.{AtMost, AtLeast, LessThan}

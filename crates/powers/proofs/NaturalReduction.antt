@@ -1,5 +1,5 @@
 -- The argument of e ^ x: x log2 e cut to a whole number of 2 ^ -32, with log2 e of 40 digits, loses less than 107 / 100 of one. Assumes nothing.
-use Rattle.std.proofs.Common.{◌≡◌, ℕ, ◌+◌, ◌-◌, ◌*◌, ◌^◌, ◌<◌, ◌≤◌, sym, ap, inl, inr, le_trans, le_of_eq, le_of_lt, mul-le-mul_right, mul-le-mul_left, div-mul-le_self, le_of_mul-le-mul_right, arith, lit<, lit≤, pow_pos}
+use Rattle.std.proofs.Common.{◌≡◌, ℕ, ◌+◌, ◌-◌, ◌*◌, ◌^◌, ◌≤◌, sym, ap, inl, inr, le_trans, le_of_eq, le_of_lt, mul-le-mul_right, mul-le-mul_left, div-mul-le_self, le_of_mul-le-mul_right, arith, lit<, lit≤, pow_pos}
 use native.Mathlib.Nat.{one-le-mul, lt-div-mul-add}
 use lib.Ieee.{Float}
 use Rattle.units.specs.Units.{P, N, Le}

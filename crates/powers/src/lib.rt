@@ -1,5 +1,7 @@
 // 2 to the power x, and e to it: whole numbers inside, one pattern put together at the end.
 
+#![tactic(auto)]
+
 pub mod fixed_point;
 pub mod natural;
 

@@ -1,6 +1,8 @@
 // Softmax: the powers of 2, or of e where `natural`, as whole numbers, one sum of them, one division, and one rounding for each output.
 // The list that is weighed is x; where x is empty, it is the floats whose patterns p holds, and they are weighed in place.
 
+#![tactic(auto)]
+
 ghost use Rattle.std.specs.Prelude.{◌≡◌, map, ℕ, ◌+◌, ◌-◌, ◌*◌, ◌/◌, ◌%◌, ◌^◌, ◌≤◌, ◌<◌, length, get_or};
 ghost use Rattle.std.specs.Int.Count.{count_leading_zeros};
 ghost use Rattle.std.specs.Float.{binary32};

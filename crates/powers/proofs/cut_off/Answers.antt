@@ -1,5 +1,5 @@
 -- `powers::cut_off` meets its contract: no digit is cut off, or each sign is a law of `Taken`. Assumes nothing.
-use Rattle.std.proofs.Common.{ℕ, ◌+◌, ◌-◌, ap, ◌∙◌, le_trans, le_of_eq, rules}
+use Rattle.std.proofs.Common.{ℕ, ◌+◌, ◌-◌, ap, ◌∙◌, le_trans, le_of_eq}
 use Rattle.fixed.proofs.Take.{no_nan}
 use Rattle.powers.proofs.Taken.{pattern_small, cut_plus, cut_minus}
 use Rattle.powers.proofs.cut_off.Goals as goal

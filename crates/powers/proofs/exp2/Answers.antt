@@ -1,14 +1,14 @@
 -- `powers::exp2` meets its promise: the argument is taken, or refused. Assumes nothing.
-use Rattle.std.proofs.Common.{◌≡◌, ℕ, ◌+◌, ◌*◌, ◌%◌, ◌^◌, ◌≤◌, T, sym, ◌∙◌, subst, inr, ⊎_elim, le_trans, arith, lit≤, rules}
+use Rattle.std.proofs.Common.{◌≡◌, ℕ, ◌+◌, ◌*◌, ◌%◌, ◌^◌, ◌≤◌, T, sym, ◌∙◌, subst, inr, le_trans, arith, lit≤}
 use lib.Ieee.{Float, binary32, fits, to_bits}
 use Rattle.units.specs.Units.{mag, P, N}
 use Rattle.units.proofs.Signs.{size-sum}
-use Rattle.units.proofs.Patterns.{Shape, within}
+use Rattle.units.proofs.Patterns.{within}
 use Rattle.fixed.proofs.Take.{equal_to_itself, no_number}
 use Rattle.powers.specs.Exp2.{Accepts}
 use Rattle.powers.specs.Value.{cut_of}
 use Rattle.powers.proofs.Promise.{success, refusal}
-use Rattle.powers.proofs.exp2.Goals.{Joined-wrapping_sub_u32-le133693440}
+use Rattle.powers.proofs.exp2.Goals.{Joined-wrapping_sub_u32-le133693440, then-wrapping_sub_u32-le133693440, else-wrapping_sub_u32-le133693440+then-in_range}
 use Rattle.powers.proofs.exp2.Goals as goal
 
 -- up to 124 in size x is accepted
@@ -37,7 +37,7 @@ low b d f h = (omega arith, omega arith)
 pub whole_cut-c-requires : goal.whole_cut-c-requires
 whole_cut-c-requires c =
     let x = c.args.x in
-    let (l, u) = low (to_bits binary32 x) _ c.wrapping_sub_u32.ensures c.if-wrapping_sub_u32-le133693440.true in
+    let (l, u) = low (to_bits binary32 x) _ c.wrapping_sub_u32.ensures.value c.if-wrapping_sub_u32-le133693440.true in
     (common x (subst T (sym c.well_formed.0.1) tt) u, l)
 
 pub cut_off-requires : goal.cut_off-requires
@@ -49,7 +49,13 @@ returns-else-in_range c = refusal _ (c.in_range.ensures.if_false c.if-in_range.f
 -- where both ways meet: x is accepted, and c is what it was cut to
 met : (c : Joined-wrapping_sub_u32-le133693440) → Accepts c.args.x × (c.if-wrapping_sub_u32-le133693440.c ≡ cut_of c.args.x)
 met c =
-    ⊎_elim (λ w. ((whole-cut-requires (record { before = c; if2 = w.0 }) tt).0, w.2 ∙ w.1.ensures)) (λ w. (w.1.ensures.if_true w.2.true, w.4 ∙ w.3.ensures)) c.if-wrapping_sub_u32-le133693440.branch
+    elim c.if-wrapping_sub_u32-le133693440.branch [
+      | then-wrapping_sub_u32-le133693440 w ↦
+          let (_, u) = low (to_bits binary32 c.args.x) _ c.wrapping_sub_u32.ensures.value w.if-wrapping_sub_u32-le133693440.true in
+          (common c.args.x (subst T (sym c.well_formed.0.1) tt) u, w.c-is ∙ w.whole_cut-c.ensures)
+      | else-wrapping_sub_u32-le133693440+then-in_range w ↦
+          (w.in_range.ensures.if_true w.if-in_range.true, w.c-is ∙ w.cut_off.ensures)
+    ]
 
 pub nearest-requires : goal.nearest-requires
 nearest-requires c = met (goal.at.nearest-requires c).Joined-wrapping_sub_u32-le133693440

@@ -1,5 +1,5 @@
 -- `powers::fraction` meets its contract: the digits shifted to their place, or what is missing of them to a whole number. Assumes nothing.
-use Rattle.std.proofs.Common.{◌≡◌, ℕ, ◌+◌, ◌%◌, ◌^◌, ◌≤◌, ap, ◌∙◌, subst, le_trans, arith, lit≤, rules}
+use Rattle.std.proofs.Common.{◌≡◌, ℕ, ◌+◌, ◌%◌, ◌^◌, ◌≤◌, ap, ◌∙◌, subst, le_trans, arith, lit≤}
 use Rattle.units.specs.Units.{mag}
 use Rattle.fixed.proofs.Take.{no_nan}
 use Rattle.powers.proofs.Places.{places-few, read_exponent, shifted, taken_plus, taken_minus}
@@ -26,4 +26,4 @@ returns-then-b-lt2147483648 c =
 pub returns : goal.returns
 returns c =
     taken_minus c.args.x c.requires.0 (size (goal.at.returns c).Start) c.if-b-lt2147483648.false c.wrapping_sub_u64.result (omega arith)
-    (subst (λ (n : ℕ). (c.wrapping_sub_u64.result + n % 2 ^ 64) % 2 ^ 64 ≡ 0) (shifted c.args.x c.requires.0 (size (goal.at.returns c).Start)) c.wrapping_sub_u64.ensures)
+    (subst (λ (n : ℕ). (c.wrapping_sub_u64.result + n % 2 ^ 64) % 2 ^ 64 ≡ 0) (shifted c.args.x c.requires.0 (size (goal.at.returns c).Start)) c.wrapping_sub_u64.ensures.value)

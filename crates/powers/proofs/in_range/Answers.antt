@@ -1,5 +1,5 @@
 -- `powers::in_range` tells whether x is from -126 to 127. Assumes nothing.
-use Rattle.std.proofs.Common.{◌≡◌, T, sym, subst, inr, arith}
+use Rattle.std.proofs.Common.{T, sym, subst, inr, arith}
 use Rattle.units.proofs.Patterns.{Shape}
 use Rattle.units.proofs.Between.{clear_test, set_test}
 use Rattle.powers.proofs.in_range.Goals as goal

@@ -1,5 +1,5 @@
 -- `powers::is_open` meets its contract: the 1 before the point is no part of the remainder. Assumes nothing.
-use Rattle.std.proofs.Common.{◌≡◌, ℕ, ◌+◌, ◌%◌, ◌^◌, leb, ap, arith, rules}
+use Rattle.std.proofs.Common.{◌≡◌, ℕ, ◌+◌, ◌%◌, ◌^◌, leb, ap, arith}
 use Rattle.powers.specs.Value.{open_lower, open_upper, is_left_open}
 use Rattle.powers.proofs.is_open.Goals as goal
 

@@ -1,5 +1,5 @@
 -- `powers::nearest` meets its contract: the digits of the one evaluation or of the other. Assumes nothing.
-use Rattle.std.proofs.Common.{◌≡◌, ℕ, ◌+◌, ◌*◌, ◌/◌, ◌%◌, ◌^◌, ◌≤◌, Bool, true, false, cond, sym, ap, ◌∙◌, le_trans, le_of_eq, arith, rules}
+use Rattle.std.proofs.Common.{◌≡◌, ℕ, ◌+◌, ◌*◌, ◌/◌, ◌%◌, ◌^◌, ◌≤◌, Bool, true, false, cond, sym, ap, ◌∙◌, le_trans, le_of_eq, arith}
 use lib.Ieee.{Float}
 use Rattle.powers.specs.Raised.{raised}
 use Rattle.powers.specs.Value.{cut_of, rounded_digits, power_digits, is_left_open, fraction_of, fine_digits, exp2_digits, exp2_bits}

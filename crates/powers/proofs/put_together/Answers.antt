@@ -1,5 +1,5 @@
 -- `powers::put_together` meets its contract: the 1 before the point is a step of the exponent. Assumes nothing.
-use Rattle.std.proofs.Common.{◌≡◌, ℕ, ◌+◌, ◌*◌, ◌/◌, ◌^◌, arith, rules}
+use Rattle.std.proofs.Common.{◌≡◌, ℕ, ◌+◌, ◌*◌, ◌/◌, ◌^◌, arith}
 use Rattle.powers.specs.Value.{rounded_digits}
 use Rattle.powers.proofs.put_together.Goals as goal
 

@@ -1,5 +1,5 @@
 -- `powers::raise` meets its contract: its steps are those of the two chains, and no sum leaves its word. Assumes nothing.
-use Rattle.std.proofs.Common.{◌≡◌, ℕ, ◌+◌, ◌*◌, ◌/◌, ◌<◌, ◌≤◌, [], ◌∷◌, sym, refl, ◌∙◌, ap₂, mul-le-mul, add_comm, arith, rules}
+use Rattle.std.proofs.Common.{◌≡◌, ℕ, ◌+◌, ◌*◌, ◌/◌, ◌<◌, ◌≤◌, [], ◌∷◌, sym, ◌∙◌, ap₂, mul-le-mul, add_comm, arith}
 use Rattle.fixed.specs.Horner.{horner, alternate, others, chains}
 use Rattle.fixed.proofs.Horner.{horner-one, horner_step}
 use Rattle.powers.specs.Raised.{coefficients, raised}

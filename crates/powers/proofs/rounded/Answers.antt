@@ -1,5 +1,5 @@
 -- `powers::rounded` meets its contract: the digits of the fraction, put together with the whole part. Assumes nothing.
-use Rattle.std.proofs.Common.{ℕ, ◌+◌, ◌*◌, ◌/◌, ap, ◌∙◌, rules}
+use Rattle.std.proofs.Common.{ℕ, ◌+◌, ◌*◌, ◌/◌, ap, ◌∙◌}
 use Rattle.powers.specs.Value.{rounded_digits, power_digits, rounded_power}
 use Rattle.powers.proofs.rounded.Goals as goal
 

@@ -1,5 +1,5 @@
 -- `powers::settled` meets its contract: the upper digits of the second evaluation, put together with the whole part. Assumes nothing.
-use Rattle.std.proofs.Common.{ℕ, ◌+◌, ◌*◌, ◌/◌, ◌^◌, ap, ◌∙◌, rules}
+use Rattle.std.proofs.Common.{ℕ, ◌+◌, ◌*◌, ◌/◌, ◌^◌, ap, ◌∙◌}
 use Rattle.powers.specs.Value.{rounded_digits, fine_digits}
 use Rattle.powers.proofs.settled.Goals as goal
 

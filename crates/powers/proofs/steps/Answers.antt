@@ -1,5 +1,5 @@
 -- `powers::steps` meets its contract: a product that is exact, a shift that cuts off, or nothing. Assumes nothing.
-use Rattle.std.proofs.Common.{◌≡◌, ℕ, ◌+◌, ◌-◌, ◌*◌, ◌/◌, ◌%◌, ◌^◌, ◌<◌, ◌≤◌, sym, ap, ◌∙◌, le_trans, lt_of_le_of_lt, mod-eq_of_lt, mul-le-mul, one-mul, div-le_self, arith, pow_mono, rules}
+use Rattle.std.proofs.Common.{◌≡◌, ℕ, ◌+◌, ◌-◌, ◌*◌, ◌/◌, ◌%◌, ◌^◌, ◌<◌, ◌≤◌, sym, ap, ◌∙◌, le_trans, lt_of_le_of_lt, mod-eq_of_lt, mul-le-mul, one-mul, div-le_self, arith, pow_mono}
 use Rattle.powers.proofs.Taken.{steps_low, steps-whole, steps_cut}
 use Rattle.powers.proofs.steps.Goals as goal
 

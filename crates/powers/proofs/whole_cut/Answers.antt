@@ -1,5 +1,5 @@
 -- `powers::whole_cut` meets its contract: modulo 2 ^ 64 the product adds the steps, or takes them away. Assumes nothing.
-use Rattle.std.proofs.Common.{◌≡◌, ℕ, ◌+◌, ◌-◌, ◌*◌, ◌/◌, ◌%◌, ◌^◌, ◌<◌, ◌≤◌, Bool, true, false, cond, ltb, sym, refl, ap, ◌∙◌, inl, inr, le_trans, le_of_eq, lt_of_le_of_lt, mod-eq_of_lt, mul-le-mul, one-mul, mul-add, arith, pow_pos, pow_mono, rules, le-ltb, lt-ltb}
+use Rattle.std.proofs.Common.{◌≡◌, ℕ, ◌+◌, ◌-◌, ◌*◌, ◌/◌, ◌%◌, ◌^◌, ◌<◌, ◌≤◌, cond, ltb, sym, ap, ◌∙◌, inl, inr, le_trans, le_of_eq, lt_of_le_of_lt, mod-eq_of_lt, mul-le-mul, one-mul, mul-add, arith, pow_pos, pow_mono, le-ltb, lt-ltb}
 use lib.Ieee.{binary32, to_bits}
 use Rattle.units.proofs.Naturals.{le-or-lt}
 use Rattle.fixed.proofs.Take.{no_nan}
@@ -79,4 +79,4 @@ overflow_mul-m c =
 pub returns : goal.returns
 returns c =
     let p = c.wrapping_sub_u32 in
-    c.wrapping_add_u64.ensures ∙ rw (c.of_sign-part.ensures, c.of_sign-unit.ensures, unit c) (cut c p.result (omega arith) p.ensures)
+    c.wrapping_add_u64.ensures.value ∙ rw (c.of_sign-part.ensures, c.of_sign-unit.ensures, unit (goal.at.returns c).Start) (cut (goal.at.returns c).Start p.result (omega arith) p.ensures.value)

@@ -1,5 +1,5 @@
 -- `powers::fixed_point::argument` meets its contract: each base has its own cut. Assumes nothing.
-use Rattle.std.proofs.Common.{sym, ap, ◌∙◌, rules}
+use Rattle.std.proofs.Common.{sym, ap, ◌∙◌}
 use Rattle.powers.specs.Base.{Base}
 use Rattle.powers.specs.Fixed.{argument_of}
 use Rattle.powers.proofs.Base.{accepts}

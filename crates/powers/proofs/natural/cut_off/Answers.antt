@@ -14,7 +14,7 @@ pub returns-then-b-lt2147483648 : goal.returns-then-b-lt2147483648
 returns-then-b-lt2147483648 c = ap (λ (k : ℕ). 541165879296 + k) c.steps-k.ensures ∙ natural-plus c.args.x c.requires c.if-b-lt2147483648.true
 
 pub overflow_add-result : goal.overflow_add-result
-overflow_add-result c = omega (arith, le_trans (le_of_eq (returns c)) (natural-top c.args.x c.requires))
+overflow_add-result c = omega (arith, le_trans (le_of_eq (returns-then-b-lt2147483648 c)) (natural-top c.args.x c.requires))
 
 pub overflow_sub-result : goal.overflow_sub-result
 overflow_sub-result c = le_trans (le_of_eq c.steps-k.ensures) (natural-minus c.args.x c.requires c.if-b-lt2147483648.false).0

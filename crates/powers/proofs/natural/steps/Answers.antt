@@ -1,5 +1,5 @@
 -- `powers::natural::steps` meets its contract: the two cases of the shift. Assumes nothing.
-use Rattle.std.proofs.Common.{sym, arith, rules}
+use Rattle.std.proofs.Common.{sym, arith}
 use Rattle.powers.proofs.NaturalTaken.{steps-none, steps-some}
 use Rattle.powers.proofs.natural.steps.Goals as goal
 
