@@ -1,11 +1,10 @@
 -- `path::currents` meets its contract: lengths, then bands, then the rest. Assumes nothing.
-use mathlib.Core.Path.{◌≡◌, refl, sym, ap, ◌∙◌, subst}
+use mathlib.Core.Path.{◌≡◌, sym, subst}
 use Prim.Native.Nat.{ℕ, ◌*◌, ◌/◌, ◌≤◌}
 use native.Mathlib.Nat.{eq-zero-or-pos}
 use mathlib.Core.Logic.{inl, inr}
 use native.Mathlib.Omega.{arith}
 use lib.ListN.{length}
-use borrow.Author.Rules.{rules}
 use Rattle.path.specs.Path.{Lengths, Bands}
 use Rattle.path.proofs.Promise.{refused_length, refused_band}
 use Rattle.path.proofs.currents.Goals.{Else-bands-n}

@@ -1,5 +1,5 @@
 -- `path::bands::envelope` meets its contract. Assumes nothing.
-use mathlib.Core.Path.{◌≡◌, sym, ap, ◌∙◌, subst}
+use mathlib.Core.Path.{sym, ap, ◌∙◌, subst}
 use mathlib.Core.Bool.{not}
 use Prim.Native.Nat.{ℕ}
 use lib.Dec.{T, lit≤}
@@ -12,13 +12,13 @@ pub float_from_bits-result : goal.float_from_bits-result
 float_from_bits-result c = readable 1065353216 (lit≤ tt)
 
 pub returns-then-s-ge72057594037927936 : goal.returns-then-s-ge72057594037927936
-returns-then-s-ge72057594037927936 c = ap (of_bits binary32) (full-bits c.before.args.s c.if-s-ge72057594037927936.true)
+returns-then-s-ge72057594037927936 c = ap (of_bits binary32) (full-bits c.args.s c.if-s-ge72057594037927936.true)
 
 pub nearest_bits-requires : goal.nearest_bits-requires
-nearest_bits-requires c = normal c.before.args.s
+nearest_bits-requires c = normal c.args.s
 
 pub float_from_bits-result-2 : goal.float_from_bits-result-2
-float_from_bits-result-2 c = subst (λ (b : ℕ). T (not (nan_bits binary32 b))) (sym c.nearest_bits.ensures) (part_readable c.before.before.args.s c.before.if-s-ge72057594037927936.false)
+float_from_bits-result-2 c = subst (λ (b : ℕ). T (not (nan_bits binary32 b))) (sym c.nearest_bits.ensures) (part_readable c.args.s c.if-s-ge72057594037927936.false)
 
 pub returns : goal.returns
-returns c = ap (of_bits binary32) (c.nearest_bits.ensures ∙ part-bits c.before.before.args.s c.before.if-s-ge72057594037927936.false)
+returns c = ap (of_bits binary32) (c.nearest_bits.ensures ∙ part-bits c.args.s c.if-s-ge72057594037927936.false)

@@ -4,8 +4,7 @@ use mathlib.Core.Path.{◌≡◌, refl, ◌∙◌}
 use native.Mathlib.Nat.{ne_of_lt}
 use lib.Seq.{get_or-set_same, get_or-set_other}
 use borrow.Author.Count.{below_none, below_more}
-use Prim.Native.Nat.{ℕ, ◌+◌, ◌-◌, ◌≤◌, ◌<◌}
-use lib.ListN.{length, get_or, set, length-set}
+use lib.ListN.{get_or, set, length-set}
 use Rattle.path.specs.Ready.{current_at}
 use Rattle.path.proofs.bands.steps.Goals as goal
 
@@ -13,28 +12,26 @@ pub loop-i-init : goal.loop-i-init
 loop-i-init c = (omega arith, refl, below_none _)
 
 pub current-requires : goal.current-requires
-current-requires c = let s = c.before.before.before.before.before in (s.requires.0, s.requires.1 c.before.loop-i.i (omega (arith, c.loop-i-test.true, c.before.loop-i.invariant.1)))
+current-requires c = (c.requires.0, c.requires.1 c.loop-i.i (omega (arith, c.loop-i-test.true, c.loop-i.invariant.1)))
 
 pub bounds-out-i : goal.bounds-out-i
-bounds-out-i c = c.before.loop-i-test.true
+bounds-out-i c = c.loop-i-test.true
 
 pub loop-i-smaller : goal.loop-i-smaller
-loop-i-smaller c = omega (arith, c.before.loop-i-test.true, c.before.before.loop-i.invariant.1)
+loop-i-smaller c = omega (arith, c.loop-i-test.true, c.loop-i.invariant.1)
 
 pub loop-i-preserved : goal.loop-i-preserved
 loop-i-preserved c =
-    let l = c.before.before in
-    let s = l.before.before.before.before in
-    let i = l.loop-i.i in (
-      omega (arith, c.before.loop-i-test.true, l.loop-i.invariant.1),
-      length-set l.loop-i.out i c.current.result ∙ l.loop-i.invariant.1,
-      below_more (λ k. get_or (set l.loop-i.out i c.current.result) k 0 ≡ current_at s.args.y.now s.args.bands.now k) i
-          (λ k h. get_or-set_other l.loop-i.out i k c.current.result 0 (ne_of_lt h) ∙ l.loop-i.invariant.2 k h)
-          (get_or-set_same l.loop-i.out i c.current.result 0 c.before.loop-i-test.true ∙ c.current.ensures),
+    let i = c.loop-i.i in (
+      omega (arith, c.loop-i-test.true, c.loop-i.invariant.1),
+      length-set c.loop-i.out i c.current.result ∙ c.loop-i.invariant.1,
+      below_more (λ k. get_or (set c.loop-i.out i c.current.result) k 0 ≡ current_at c.args.y.now c.args.bands.now k) i
+          (λ k h. get_or-set_other c.loop-i.out i k c.current.result 0 (ne_of_lt h) ∙ c.loop-i.invariant.2 k h)
+          (get_or-set_same c.loop-i.out i c.current.result 0 c.loop-i-test.true ∙ c.current.ensures),
     )
 
 pub shape_of-out : goal.shape_of-out
-shape_of-out c = c.before.loop-i.invariant.1
+shape_of-out c = c.loop-i.invariant.1
 
 pub returns : goal.returns
-returns c = let l = c.before in record { as_many = l.loop-i.invariant.1; each = λ i h. l.loop-i.invariant.2 i (omega (arith, c.loop-i-test.false, l.loop-i.invariant.1)) }
+returns c = record { as_many = c.loop-i.invariant.1; each = λ i h. c.loop-i.invariant.2 i (omega (arith, c.loop-i-test.false, c.loop-i.invariant.1)) }

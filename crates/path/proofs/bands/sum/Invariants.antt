@@ -1,11 +1,8 @@
 -- `path::bands::sum` meets its contract. The loop's invariant: s is the sum of the words before k. Assumes nothing.
-use mathlib.Core.Path.{◌≡◌, refl, sym, ap, ◌∙◌, subst}
-use Prim.Native.Nat.{ℕ, suc, ◌+◌, ◌-◌, ◌*◌, ◌^◌, ◌≤◌, ◌<◌}
-use native.Mathlib.Nat.{le_antisymm}
-use native.Mathlib.Omega.{arith}
-use lib.ListN.{length, get_or}
+use mathlib.Core.Path.{◌≡◌}
+use Prim.Native.Nat.{◌+◌, ◌-◌, ◌*◌, ◌^◌, ◌≤◌}
+use lib.ListN.{get_or}
 use Rattle.spectrum.specs.Transform.{sum_of}
-use Rattle.path.proofs.Adding.{sum_more, sum-none, sum-most}
 use Rattle.path.proofs.bands.sum.Given as goal
 
 abbrev pub invariant-loop-k : goal.invariant-loop-k

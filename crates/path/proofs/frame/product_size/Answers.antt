@@ -1,7 +1,6 @@
 -- `path::frame::product_size` meets its contract. Assumes nothing.
 use mathlib.Core.Path.{◌∙◌}
 use native.Mathlib.Omega.{arith}
-use borrow.Author.Rules.{rules}
 use Rattle.path.proofs.Products.{few-digits, by_patterns}
 use Rattle.path.proofs.frame.product_size.Goals as goal
 
@@ -9,4 +8,4 @@ pub overflow_mul-n-2 : goal.overflow_mul-n-2
 overflow_mul-n-2 c = omega (arith, few-digits c.args.p c.args.q c.requires.0 c.requires.1)
 
 pub returns : goal.returns
-returns c = let s = c.before in c.without.ensures ∙ by_patterns s.args.p s.args.q s.requires.0 s.requires.1
+returns c = c.without.ensures ∙ by_patterns c.args.p c.args.q c.requires.0 c.requires.1

@@ -1,11 +1,7 @@
 -- `path::frame::products` meets its contract. The loop's invariant: the words written are those of the products passed. Assumes nothing.
-use native.Mathlib.Omega.{arith}
-use mathlib.Core.Path.{◌≡◌, refl, ◌∙◌}
-use native.Mathlib.Nat.{ne_of_lt}
-use lib.Seq.{get_or-set_same, get_or-set_other}
-use borrow.Author.Count.{below_none, below_more}
-use Prim.Native.Nat.{ℕ, ◌+◌, ◌-◌, ◌≤◌, ◌<◌}
-use lib.ListN.{length, get_or, set, length-set}
+use mathlib.Core.Path.{◌≡◌}
+use Prim.Native.Nat.{ℕ, ◌-◌, ◌≤◌, ◌<◌}
+use lib.ListN.{length, get_or}
 use Rattle.spectrum.specs.Transform.{at}
 use Rattle.path.specs.Steps.{product_word}
 use Rattle.path.proofs.frame.products.Given as goal

@@ -6,8 +6,8 @@ use Rattle.path.proofs.moduli.larger.Goals as goal
 
 pub returns-then-a-b : goal.returns-then-a-b
 unfolding larger
-returns-then-a-b c = rw (lt-ltb c.before.args.a c.before.args.b c.if-a-b.true) refl
+returns-then-a-b c = rw (lt-ltb c.args.a c.args.b c.if-a-b.true) refl
 
 pub returns : goal.returns
 unfolding larger
-returns c = rw (le-ltb c.before.args.a c.before.args.b c.if-a-b.false) refl
+returns c = rw (le-ltb c.args.a c.args.b c.if-a-b.false) refl

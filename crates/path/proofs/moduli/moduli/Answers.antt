@@ -1,13 +1,11 @@
 -- `path::moduli::moduli` meets its contract. The loop's invariant: the moduli below k are written. Assumes nothing.
 use native.Mathlib.Omega.{arith}
-use mathlib.Core.Path.{◌≡◌, refl, sym, ◌∙◌, subst}
-use mathlib.Core.List.{List}
+use mathlib.Core.Path.{refl, sym, ◌∙◌, subst}
 use native.Mathlib.Nat.{ne_of_lt}
 use lib.Seq.{get_or-set_same, get_or-set_other}
 use borrow.Author.Count.{below_none, below_more}
-use Prim.Native.Nat.{ℕ, ◌+◌, ◌-◌, ◌≤◌, ◌<◌}
+use Prim.Native.Nat.{◌<◌}
 use lib.ListN.{length, get_or, set, length-set}
-use Rattle.path.specs.Steps.{modulus_of, Modulus, real_size, imaginary_size}
 use Rattle.path.proofs.moduli.moduli.Goals.{In-loop-k}
 use Rattle.path.proofs.moduli.moduli.Invariants.{Is}
 use Rattle.path.proofs.moduli.moduli.Goals as goal
