@@ -3,7 +3,7 @@ use mathlib.Core.Path.{◌≡◌, refl, sym, ap, ◌∙◌, subst}
 use mathlib.Core.Logic.{inl, inr}
 use mathlib.Core.List.{List}
 use Prim.Native.Nat.{ℕ, suc, ◌+◌, ◌-◌, ◌*◌, ◌^◌, ◌≤◌, ◌<◌}
-use native.Mathlib.Nat.{le_trans, le_of_eq, le_refl, lt_of_lt_of_le, mul-le-mul_left, mul-le-mul_right, mul-pos, mul_assoc, pow-le-pow_left, pow-zero, le_of_mul-le-mul_right}
+use native.Mathlib.Nat.{le_trans, le_of_eq, lt_of_lt_of_le, mul-le-mul_left, mul-le-mul_right, mul-pos, mul_assoc, pow-le-pow_left, pow-zero, le_of_mul-le-mul_right}
 use native.Mathlib.Omega.{arith}
 use lib.Dec.{lit≤, lit<}
 use lib.Pow.{pow_pos}
@@ -13,7 +13,7 @@ use Rattle.units.specs.Units.{P}
 use Rattle.units.proofs.Naturals.{le-or-lt}
 use Rattle.spectrum.specs.Difference.{Difference, size}
 use Rattle.spectrum.specs.Words.{FilledWith}
-use Rattle.spectrum.specs.Transform.{at, turned_total, Turns, sum_of, square}
+use Rattle.spectrum.specs.Transform.{at, turned_total, Turns, square}
 use Rattle.loudness.specs.Map.{Channel, RatioAtMost, RatioAtLeast, map_error_num}
 use Rattle.loudness.specs.Value.{step_of}
 use Rattle.path.specs.Path.{product, power, band_sum, in_sums, between, NearPath, path_error_num, path_error_den}

@@ -1,5 +1,5 @@
 -- A sum of moduli over 64 as a float: from 0 to 1, and how near. Assumes nothing.
-use mathlib.Core.Path.{◌≡◌, refl, sym, ap, ◌∙◌, subst}
+use mathlib.Core.Path.{◌≡◌, refl, sym, ◌∙◌, subst}
 use mathlib.Core.Logic.{inl, inr}
 use mathlib.Core.Bool.{false}
 use Prim.Native.Nat.{ℕ, ◌+◌, ◌-◌, ◌*◌, ◌^◌, ◌≤◌, ◌<◌}
@@ -10,7 +10,7 @@ use lib.Pow.{pow_pos}
 use lib.Ieee.{Float, binary32, of_bits, nan_bits}
 use mathlib.Core.Bool.{not}
 use borrow.Author.Tests.{le-leb, lt-leb}
-use Rattle.units.specs.Units.{mag, P, N, Number}
+use Rattle.units.specs.Units.{P}
 use Rattle.units.proofs.Naturals.{le-or-lt}
 use Rattle.units.proofs.Bits.{Is, put_positive, no_nan_positive}
 use Rattle.units.proofs.Signs.{plus_of_lem, minus_of_lem}

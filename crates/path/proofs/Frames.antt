@@ -10,12 +10,11 @@ use lib.Ieee.{Float}
 use Rattle.units.proofs.Naturals.{le-or-lt}
 use Rattle.units.proofs.Signs.{size-sum}
 use Rattle.spectrum.specs.Difference.{Difference, whole, opposite, times, size}
-use Rattle.spectrum.specs.Table.{unit, cosine, sine}
+use Rattle.spectrum.specs.Table.{unit}
 use Rattle.spectrum.specs.Words.{value_of, Small as SmallWord, FilledWith}
 use Rattle.spectrum.specs.Transform.{at, units_of, turned_total, Turns}
 use Rattle.spectrum.proofs.Differences as D
 use Rattle.spectrum.proofs.Differences.{Close, times-length}
-use Rattle.spectrum.proofs.Halving.{plain}
 use Rattle.spectrum.proofs.Stage.{Transformed}
 use Rattle.spectrum.proofs.Filling.{loss, filled, sizes}
 use Rattle.spectrum.proofs.Blocks.{within}

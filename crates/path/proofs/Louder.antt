@@ -1,28 +1,27 @@
 -- A frame played louder: no current falls by more than one step. From the promise alone, so of every program that keeps it. Assumes nothing.
-use mathlib.Core.Path.{◌≡◌, refl, sym, ap, ◌∙◌, subst}
+use mathlib.Core.Path.{◌≡◌, refl, sym, ap, ◌∙◌}
 use mathlib.Core.Logic.{inl, inr}
 use mathlib.Core.List.{List}
 use Prim.Native.Nat.{ℕ, zero, suc, ◌+◌, ◌-◌, ◌*◌, ◌%◌, ◌^◌, ◌≤◌, ◌<◌}
-use native.Mathlib.Nat.{le_trans, le_of_eq, lt_of_lt_of_le, lt_of_le_of_lt, mul_assoc, mul_comm, mul-one, mul-pos, mul-le-mul, mul-le-mul_left, mul-le-mul_right, le_of_mul-le-mul_left, le_of_mul-le-mul_right, pow-le-pow_left, pow-suc}
+use native.Mathlib.Nat.{le_trans, le_of_eq, lt_of_lt_of_le, lt_of_le_of_lt, mul_assoc, mul-pos, mul-le-mul_left, mul-le-mul_right, le_of_mul-le-mul_left, pow-le-pow_left, pow-suc}
 use native.Mathlib.Omega.{arith}
 use lib.Dec.{lit<, lit≤}
 use borrow.Author.Tests.{le-leb, lt-leb}
 use lib.Pow.{pow-add, pow_pos}
-use lib.ListN.{length, get_or}
+use lib.ListN.{get_or}
 use lib.Ieee.{Float}
 use Rattle.units.specs.Units.{P, N}
 use Rattle.units.proofs.Naturals.{le-or-lt}
 use Rattle.exact.proofs.Power.{mul-pow}
 use Rattle.spectrum.specs.Difference.{Difference, whole, times, size}
 use Rattle.spectrum.specs.Table.{unit, cosine_below, sine_below}
-use Rattle.spectrum.specs.Transform.{at, units_of, turned_total, sum_of, square}
-use Rattle.spectrum.proofs.Differences as D
+use Rattle.spectrum.specs.Transform.{at, units_of, turned_total, square}
 use Rattle.spectrum.proofs.Differences.{Close, close_sym, close_trans, close_weaken, close_by, total_close, total-times}
 use Rattle.spectrum.proofs.Cosines.{own_table}
 use Rattle.loudness.specs.Map.{RatioAtMost, RatioAtLeast, map_error_num}
 use Rattle.path.specs.Path.{lo, hi, quietest, loudest, threshold, comfort, Band, Accepts, product, power, band_sum, in_sums, between, path_error_num, Currents}
 use Rattle.path.specs.Louder.{Louder}
-use Rattle.path.proofs.Squares.{squared, unsquared}
+use Rattle.path.proofs.Squares.{squared}
 use Rattle.path.proofs.Adding.{sum_by}
 use Rattle.path.proofs.Ratios.{pow-positive, above, between-most, between-least, between-above, between_either, most_wider, Allows, allows}
 

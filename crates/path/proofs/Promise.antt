@@ -3,21 +3,21 @@ use mathlib.Core.Path.{◌≡◌, refl, sym, ap, ◌∙◌, subst}
 use mathlib.Core.Logic.{inl, inr}
 use mathlib.Core.List.{List, []}
 use Prim.Native.Nat.{ℕ, suc, ◌+◌, ◌-◌, ◌*◌, ◌%◌, ◌^◌, ◌≤◌, ◌<◌, zero-le}
-use native.Mathlib.Nat.{le_trans, le_of_eq, lt_of_le_of_lt, lt_of_lt_of_le}
+use native.Mathlib.Nat.{le_trans, le_of_eq, lt_of_lt_of_le}
 use native.Mathlib.Omega.{arith}
-use lib.Dec.{T, lit<, lit≤}
+use lib.Dec.{T, lit<}
 use lib.ListN.{length, get_or}
 use lib.Ieee.{Float, binary32, fits}
-use Rattle.units.specs.Units.{mag, P, Number}
+use Rattle.units.specs.Units.{mag}
 use Rattle.units.specs.Answers.{Ends}
 use Rattle.units.proofs.Answers.{written, untouched}
 use Rattle.units.proofs.Naturals.{le-or-lt}
 use Rattle.units.proofs.Signs.{size-sum}
 use Rattle.units.proofs.Patterns.{finite-below}
-use Rattle.spectrum.specs.Difference.{Difference, times, size, total}
+use Rattle.spectrum.specs.Difference.{Difference, times, size}
 use Rattle.spectrum.specs.Table.{unit, cosine_below, sine_below}
 use Rattle.spectrum.specs.Words.{FilledWith}
-use Rattle.spectrum.specs.Transform.{at, units_of, turned_total, Turns, sum_of, square}
+use Rattle.spectrum.specs.Transform.{at, units_of, turned_total, Turns}
 use Rattle.spectrum.specs.Floats.{digits_in, place_in, size_in, size_bits, Largest}
 use Rattle.spectrum.proofs.Differences as D
 use Rattle.spectrum.proofs.Differences.{total-length}
@@ -26,7 +26,7 @@ use Rattle.spectrum.proofs.Sizes.{size_of, size_mono}
 use Rattle.loudness.specs.Value.{step_of}
 use Rattle.path.specs.Path.{lo, hi, quietest, loudest, threshold, comfort, Lengths, Band, Bands, Sample, Samples, Accepts, product, power, in_sums, NearPath, path_error_num, path_error_den, as_they_are, Currents}
 use Rattle.path.specs.Steps.{Products, modulus_of, real_size, imaginary_size, Moduli, envelope_of, sum_from, IsCurrent}
-use Rattle.path.specs.Ready.{Small, Summable, Ready, current_at, Stepped}
+use Rattle.path.specs.Ready.{Small, current_at, Stepped}
 use Rattle.path.proofs.Adding.{sum_same}
 use Rattle.path.proofs.Products.{small_size}
 use Rattle.path.proofs.Envelopes.{envelope}

@@ -1,8 +1,8 @@
 -- The map's law at both ends and beyond them, and for a level that is a little off. Assumes nothing.
-use mathlib.Core.Path.{◌≡◌, refl, sym, ap, ap₂, ◌∙◌, subst}
+use mathlib.Core.Path.{◌≡◌, refl, sym, ap, ◌∙◌, subst}
 use mathlib.Core.Logic.{inl, inr, ◌⊎◌}
 use Prim.Native.Nat.{ℕ, zero, suc, ◌+◌, ◌-◌, ◌*◌, ◌^◌, ◌≤◌, ◌<◌}
-use native.Mathlib.Nat.{le_trans, le_of_eq, le_refl, mul_assoc, mul_comm, mul-one, mul-le-mul, mul-le-mul_left, mul-le-mul_right, le_of_mul-le-mul_left, le_of_mul-le-mul_right, pow-le-pow_left, lt_of_lt_of_le, pow-suc, pow-zero}
+use native.Mathlib.Nat.{le_trans, le_of_eq, le_refl, mul_assoc, mul-one, mul-le-mul, mul-le-mul_left, mul-le-mul_right, le_of_mul-le-mul_left, le_of_mul-le-mul_right, pow-le-pow_left, lt_of_lt_of_le, pow-suc, pow-zero}
 use native.Mathlib.Omega.{arith}
 use borrow.Author.Tests.{le-leb, lt-leb}
 use lib.Dec.{lit≤}
@@ -11,10 +11,10 @@ use lib.Ieee.{Float}
 use Rattle.units.specs.Units.{P}
 use Rattle.units.proofs.Naturals.{le-or-lt}
 use Rattle.exact.proofs.Power.{mul-pow, pow-mul}
-use Rattle.loudness.specs.Map.{Channel, Envelope, RatioAtMost, RatioAtLeast, map_error_num, map_error_den, Loudness}
+use Rattle.loudness.specs.Map.{Channel, Envelope, RatioAtMost, RatioAtLeast, map_error_num, Loudness}
 use Rattle.loudness.specs.Value.{step_of}
 use Rattle.loudness.proofs.Promise.{promised}
-use Rattle.path.specs.Path.{between, path_error_num, path_error_den}
+use Rattle.path.specs.Path.{between, path_error_num}
 
 -- powers of a number above zero
 pub pow-positive : {n : ℕ} → 0 < n → (k : ℕ) → 0 < n ^ k

@@ -1,8 +1,7 @@
 -- Squares of whole numbers, and a sum of two of them with something added. Assumes nothing.
-use mathlib.Core.Path.{◌≡◌}
 use mathlib.Core.Logic.{inl, inr}
 use Prim.Native.Nat.{ℕ, suc, ◌+◌, ◌*◌, ◌≤◌, ◌<◌}
-use native.Mathlib.Nat.{mul-le-mul, mul-le-mul_left, mul-le-mul_right}
+use native.Mathlib.Nat.{mul-le-mul, mul-le-mul_right}
 use native.Mathlib.Omega.{arith}
 use Rattle.units.proofs.Naturals.{le-or-lt}
 use Rattle.spectrum.specs.Transform.{square}

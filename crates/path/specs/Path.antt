@@ -4,7 +4,7 @@ use Rattle.std.specs.Prelude.{◌≡◌, cond, List, ℕ, suc, ◌+◌, ◌-◌,
 use Rattle.std.specs.Float.{binary32}
 use Rattle.std.specs.Float.Ieee.{of_bits}
 use Rattle.units.specs.Units.{mag, P, Number}
-use Rattle.spectrum.specs.Difference.{Difference, opposite, times, size}
+use Rattle.spectrum.specs.Difference.{Difference, times, size}
 use Rattle.spectrum.specs.Transform.{at, units_of, turned_total, Turns, sum_of, square}
 pub use Rattle.loudness.specs.Fitted.{as_they_are}
 use Rattle.loudness.specs.Map.{Channel, RatioAtMost, RatioAtLeast}

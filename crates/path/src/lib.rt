@@ -1,6 +1,8 @@
 // From a frame of samples to the currents of the electrodes: window, transform, sizes, bands and the loudness map. Whole numbers inside, and one rounding
 // to a float before the map.
 
+#![tactic(auto)]
+
 mod bands;
 mod frame;
 mod moduli;
