@@ -1,6 +1,8 @@
 // 2^t - 1 for a fraction t, to 58 digits after the point: by Horner's rule on the power series, in words of 64 bits out of products of 32. It takes ten
 // times what a power in 32 digits takes, and is asked where that leaves open which float is the nearest.
 
+#![tactic(auto)]
+
 ghost use Rattle.std.specs.Prelude.{◌≡◌, ◌+◌, ◌*◌, ◌/◌, ◌^◌, ◌<◌};
 ghost use Rattle.fine.specs.Value.{fine_of};
 

@@ -1,5 +1,7 @@
 // Reading a float's bits, taking it apart into whole numbers, and putting one together.
 
+#![tactic(auto)]
+
 pub mod division;
 
 ghost use Rattle.std.specs.Prelude.{◌≡◌, ◌*◌, ◌/◌, ◌^◌, ◌≤◌, ◌<◌};

@@ -22,67 +22,67 @@ from i = drop i coefficients
 fits : (s : Start) (c : ℕ) (cs : List ℕ) (p w : ℕ) → p ≡ horner U cs s.args.t → c + altogether cs < w → c + p < w
 fits s c cs p w e h = omega (arith, horner-most U s.args.t (lit< tt) (omega arith) cs)
 
-made-short : (c : After-short-p) → c.short-p.result ≡ horner U (from 15) c.before.args.t
+made-short : (c : After-short-p) → c.short-p.result ≡ horner U (from 15) c.args.t
 unfolding coefficients
 made-short c = horner_step U _ _ _ (sym (horner-one U _ _)) c.short-p.ensures
 
-made-short2 : (c : After-short-p-2) → c.short-p-2.result ≡ horner U (from 14) c.before.before.args.t
+made-short2 : (c : After-short-p-2) → c.short-p-2.result ≡ horner U (from 14) c.args.t
 unfolding coefficients
 made-short2 c = horner_step U _ _ _ (made-short c.before) c.short-p-2.ensures
 
-made-short3 : (c : After-short-p-3) → c.short-p-3.result ≡ horner U (from 13) c.before.before.before.args.t
+made-short3 : (c : After-short-p-3) → c.short-p-3.result ≡ horner U (from 13) c.args.t
 unfolding coefficients
 made-short3 c = horner_step U _ _ _ (made-short2 c.before) c.short-p-3.ensures
 
-made-short4 : (c : After-short-p-4) → c.short-p-4.result ≡ horner U (from 12) c.before.before.before.before.args.t
+made-short4 : (c : After-short-p-4) → c.short-p-4.result ≡ horner U (from 12) c.args.t
 unfolding coefficients
 made-short4 c = horner_step U _ _ _ (made-short3 c.before) c.short-p-4.ensures
 
-made-short5 : (c : After-short-p-5) → c.short-p-5.result ≡ horner U (from 11) c.before.before.before.before.before.args.t
+made-short5 : (c : After-short-p-5) → c.short-p-5.result ≡ horner U (from 11) c.args.t
 unfolding coefficients
 made-short5 c = horner_step U _ _ _ (made-short4 c.before) c.short-p-5.ensures
 
-made-step : (c : After-step-p) → c.step-p.result ≡ horner U (from 10) c.before.before.before.before.before.before.args.t
+made-step : (c : After-step-p) → c.step-p.result ≡ horner U (from 10) c.args.t
 unfolding coefficients
 made-step c = horner_step U _ _ _ (made-short5 c.before) c.step-p.ensures
 
-made-step2 : (c : After-step-p-2) → c.step-p-2.result ≡ horner U (from 9) c.before.before.before.before.before.before.before.args.t
+made-step2 : (c : After-step-p-2) → c.step-p-2.result ≡ horner U (from 9) c.args.t
 unfolding coefficients
 made-step2 c = horner_step U _ _ _ (made-step c.before) c.step-p-2.ensures
 
-made-step3 : (c : After-step-p-3) → c.step-p-3.result ≡ horner U (from 8) c.before.before.before.before.before.before.before.before.args.t
+made-step3 : (c : After-step-p-3) → c.step-p-3.result ≡ horner U (from 8) c.args.t
 unfolding coefficients
 made-step3 c = horner_step U _ _ _ (made-step2 c.before) c.step-p-3.ensures
 
-made-step4 : (c : After-step-p-4) → c.step-p-4.result ≡ horner U (from 7) c.before.before.before.before.before.before.before.before.before.args.t
+made-step4 : (c : After-step-p-4) → c.step-p-4.result ≡ horner U (from 7) c.args.t
 unfolding coefficients
 made-step4 c = horner_step U _ _ _ (made-step3 c.before) c.step-p-4.ensures
 
-made-step5 : (c : After-step-p-5) → c.step-p-5.result ≡ horner U (from 6) c.before.before.before.before.before.before.before.before.before.before.args.t
+made-step5 : (c : After-step-p-5) → c.step-p-5.result ≡ horner U (from 6) c.args.t
 unfolding coefficients
 made-step5 c = horner_step U _ _ _ (made-step4 c.before) c.step-p-5.ensures
 
-made-step6 : (c : After-step-p-6) → c.step-p-6.result ≡ horner U (from 5) c.before.before.before.before.before.before.before.before.before.before.before.args.t
+made-step6 : (c : After-step-p-6) → c.step-p-6.result ≡ horner U (from 5) c.args.t
 unfolding coefficients
 made-step6 c = horner_step U _ _ _ (made-step5 c.before) c.step-p-6.ensures
 
-made-step7 : (c : After-step-p-7) → c.step-p-7.result ≡ horner U (from 4) c.before.before.before.before.before.before.before.before.before.before.before.before.args.t
+made-step7 : (c : After-step-p-7) → c.step-p-7.result ≡ horner U (from 4) c.args.t
 unfolding coefficients
 made-step7 c = horner_step U _ _ _ (made-step6 c.before) c.step-p-7.ensures
 
-made-step8 : (c : After-step-p-8) → c.step-p-8.result ≡ horner U (from 3) c.before.before.before.before.before.before.before.before.before.before.before.before.before.args.t
+made-step8 : (c : After-step-p-8) → c.step-p-8.result ≡ horner U (from 3) c.args.t
 unfolding coefficients
 made-step8 c = horner_step U _ _ _ (made-step7 c.before) c.step-p-8.ensures
 
-made-step9 : (c : After-step-p-9) → c.step-p-9.result ≡ horner U (from 2) c.before.before.before.before.before.before.before.before.before.before.before.before.before.before.args.t
+made-step9 : (c : After-step-p-9) → c.step-p-9.result ≡ horner U (from 2) c.args.t
 unfolding coefficients
 made-step9 c = horner_step U _ _ _ (made-step8 c.before) c.step-p-9.ensures
 
-made-step10 : (c : After-step-p-10) → c.step-p-10.result ≡ horner U (from 1) c.before.before.before.before.before.before.before.before.before.before.before.before.before.before.before.args.t
+made-step10 : (c : After-step-p-10) → c.step-p-10.result ≡ horner U (from 1) c.args.t
 unfolding coefficients
 made-step10 c = horner_step U _ _ _ (made-step9 c.before) c.step-p-10.ensures
 
-made-step11 : (c : After-step-p-11) → c.step-p-11.result ≡ horner U (from 0) c.before.before.before.before.before.before.before.before.before.before.before.before.before.before.before.before.args.t
+made-step11 : (c : After-step-p-11) → c.step-p-11.result ≡ horner U (from 0) c.args.t
 unfolding coefficients
 made-step11 c = horner_step U _ _ _ (made-step10 c.before) c.step-p-11.ensures
 

@@ -5,4 +5,4 @@ use Rattle.fine.proofs.Words.{fraction}
 use Rattle.fine.proofs.step.Goals as goal
 
 pub overflow_add-result : goal.overflow_add-result
-overflow_add-result c = omega (arith, fraction c.before.args.p c.before.args.t (omega arith))
+overflow_add-result c = omega (arith, fraction c.args.p c.args.t (omega arith))

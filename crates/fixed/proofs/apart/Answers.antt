@@ -8,19 +8,19 @@ pub float_to_bits-b : goal.float_to_bits-b
 float_to_bits-b c = no_nan c.args.x c.requires.number
 
 pub overflow_sub-s : goal.overflow_sub-s
-overflow_sub-s c = leading_low c.before.args.x c.before.requires c.if-b-lt8388608.true
+overflow_sub-s c = leading_low c.args.x c.requires c.if-b-lt8388608.true
 
 pub overflow_shl-result : goal.overflow_shl-result
-overflow_shl-result c = omega (arith, shift_low c.before.args.x c.before.requires c.if-b-lt8388608.true)
+overflow_shl-result c = omega (arith, shift_low c.args.x c.requires c.if-b-lt8388608.true)
 
 pub overflow_sub-result : goal.overflow_sub-result
-overflow_sub-result c = omega (arith, shift_low c.before.args.x c.before.requires c.if-b-lt8388608.true)
+overflow_sub-result c = omega (arith, shift_low c.args.x c.requires c.if-b-lt8388608.true)
 
 pub overflow_add-result-else-b-lt8388608 : goal.overflow_add-result-else-b-lt8388608
-overflow_add-result-else-b-lt8388608 c = omega (arith, (apart-high c.before.args.x c.before.requires c.if-b-lt8388608.false).high)
+overflow_add-result-else-b-lt8388608 c = omega (arith, (apart-high c.args.x c.requires c.if-b-lt8388608.false).high)
 
 pub returns-then-b-lt8388608 : goal.returns-then-b-lt8388608
-returns-then-b-lt8388608 c = apart_low c.before.args.x c.before.requires c.if-b-lt8388608.true
+returns-then-b-lt8388608 c = apart_low c.args.x c.requires c.if-b-lt8388608.true
 
 pub returns-else-b-lt8388608 : goal.returns-else-b-lt8388608
-returns-else-b-lt8388608 c = apart-high c.before.args.x c.before.requires c.if-b-lt8388608.false
+returns-else-b-lt8388608 c = apart-high c.args.x c.requires c.if-b-lt8388608.false

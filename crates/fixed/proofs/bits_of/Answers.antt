@@ -9,7 +9,7 @@ use Rattle.fixed.proofs.bits_of.Goals as goal
 
 pub returns-then-x : goal.returns-then-x
 unfolding to_bits
-returns-then-x c = sym (ap (to_bits binary32) (differs_from_itself c.before.args.x (subst T (sym c.if-x.true) tt)))
+returns-then-x c = sym (ap (to_bits binary32) (differs_from_itself c.args.x (subst T (sym c.if-x.true) tt)))
 
 pub float_to_bits-result : goal.float_to_bits-result
-float_to_bits-result c = equal_to_itself c.before.args.x c.if-x.false
+float_to_bits-result c = equal_to_itself c.args.x c.if-x.false

@@ -11,23 +11,23 @@ use Rattle.fixed.proofs.Even.{even-zero, even_zeros, even-few, one-zero, shifted
 use Rattle.fixed.proofs.even_bits.Goals as goal
 
 pub returns-then-n-eq0 : goal.returns-then-n-eq0
-returns-then-n-eq0 c = sym (even-zero c.before.args.n c.before.args.e c.if-n-eq0.true)
+returns-then-n-eq0 c = sym (even-zero c.args.n c.args.e c.if-n-eq0.true)
 
-above_zero : (c : goal.Else-n-eq0) → 0 < c.before.args.n
+above_zero : (c : goal.Else-n-eq0) → 0 < c.args.n
 above_zero c = lt_of_not-le (λ h. c.if-n-eq0.false (le_antisymm h zero-le))
 
-digits : (c : goal.Else-n-eq0) → Placed c.before.args.n (count_leading_zeros 64 c.before.args.n)
-digits c = even_zeros c.before.args.n c.before.args.e (above_zero c) c.before.requires.1 c.before.requires.0
+digits : (c : goal.Else-n-eq0) → Placed c.args.n (count_leading_zeros 64 c.args.n)
+digits c = even_zeros c.args.n c.args.e (above_zero c) c.requires.1 c.requires.0
 
-few : (c : goal.Else-n-eq0) → count_leading_zeros 64 c.before.args.n ≤ c.before.args.e
-few c = even-few c.before.args.n c.before.args.e (above_zero c) c.before.requires.1 c.before.requires.0
+few : (c : goal.Else-n-eq0) → count_leading_zeros 64 c.args.n ≤ c.args.e
+few c = even-few c.args.n c.args.e (above_zero c) c.requires.1 c.requires.0
 
-one : (c : goal.Else-n-eq0) → 1 ≤ count_leading_zeros 64 c.before.args.n
-one c = one-zero c.before.args.n c.before.args.e (count_leading_zeros 64 c.before.args.n) (digits c) (few c) c.before.requires.1
+one : (c : goal.Else-n-eq0) → 1 ≤ count_leading_zeros 64 c.args.n
+one c = one-zero c.args.n c.args.e (count_leading_zeros 64 c.args.n) (digits c) (few c) c.requires.1
 
 -- what is shifted has 63 digits
-high : (c : goal.Else-n-eq0) → c.before.args.n * 2 ^ (count_leading_zeros 64 c.before.args.n - 1) < 2 ^ 63
-high c = shifted-high c.before.args.n c.before.args.e (count_leading_zeros 64 c.before.args.n) (digits c) (few c) c.before.requires.1
+high : (c : goal.Else-n-eq0) → c.args.n * 2 ^ (count_leading_zeros 64 c.args.n - 1) < 2 ^ 63
+high c = shifted-high c.args.n c.args.e (count_leading_zeros 64 c.args.n) (digits c) (few c) c.requires.1
 
 pub overflow_sub-m : goal.overflow_sub-m
 overflow_sub-m c = one c
@@ -49,4 +49,4 @@ overflow_add-result-2 c = omega (arith, high c)
 
 pub returns : goal.returns
 unfolding even_bits even_digits
-returns c = rw (mod-eq_of_lt {m = 18446744073709551616} (lt_of_lt_of_le (high c) (omega arith)), some c.before.args.n c.before.args.e (above_zero c)) refl
+returns c = rw (mod-eq_of_lt {m = 18446744073709551616} (lt_of_lt_of_le (high c) (omega arith)), some c.args.n c.args.e (above_zero c)) refl

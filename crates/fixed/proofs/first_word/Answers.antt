@@ -12,13 +12,13 @@ use Rattle.fixed.proofs.first_word.Goals as goal
 -- ---- of more than 32 digits
 module _ (c : goal.Then-h-gt0) where
   abbrev n : ℕ
-  n = c.before.args.n
+  n = c.args.n
 
   zeros : (count_leading_zeros 32 (n / 4294967296) ≤ 31) × (count_leading_zeros 32 (n / 4294967296) ≡ count_leading_zeros 64 n)
   zeros = upper_zeros n c.if-h-gt0.true (omega arith)
 
   digits : Placed n (count_leading_zeros 32 (n / 4294967296))
-  digits = rw zeros.1 (placed n c.before.requires (omega arith))
+  digits = rw zeros.1 (placed n c.requires (omega arith))
 
 pub upper_word-requires : goal.upper_word-requires
 upper_word-requires c = ((digits c).high, let h = (zeros c).0 in omega arith)
@@ -28,13 +28,13 @@ returns-then-h-gt0 c = (c.upper_word.ensures ∙ ap (λ (z : ℕ). n c.before * 
 
 module _ (c : goal.Else-h-gt0) where
   abbrev m : ℕ
-  m = c.before.args.n
+  m = c.args.n
 
   same : m % 4294967296 ≡ m
   same = let h = c.if-h-gt0.false in omega arith
 
   lower : (count_leading_zeros 32 m ≤ 31) × (m * 2 ^ count_leading_zeros 32 m < 4294967296) × (32 + count_leading_zeros 32 m ≡ count_leading_zeros 64 m)
-  lower = lower_zeros m c.before.requires (let h = c.if-h-gt0.false in omega arith)
+  lower = lower_zeros m c.requires (let h = c.if-h-gt0.false in omega arith)
 
 pub overflow_shl-result : goal.overflow_shl-result
 overflow_shl-result c = rw (same c) (let h = (lower c).0 in omega arith)

@@ -13,10 +13,10 @@ use Rattle.fixed.proofs.nearest_bits.Goals as goal
 -- ---- of more than 32 digits
 module _ (c : goal.Then-h-gt0) where
   abbrev n : ℕ
-  n = c.before.args.n
+  n = c.args.n
 
   abbrev e : ℕ
-  e = c.before.args.e
+  e = c.args.e
 
   zeros : (count_leading_zeros 32 (n / 4294967296) ≤ 31) × (count_leading_zeros 32 (n / 4294967296) ≡ count_leading_zeros 64 n)
   zeros = upper_zeros n c.if-h-gt0.true (omega arith)
@@ -28,16 +28,16 @@ module _ (c : goal.Then-h-gt0) where
   upper_digits = rw zeros.1 (placed n above (omega arith))
 
 pub overflow_sub-result : goal.overflow_sub-result
-overflow_sub-result c = few_zeros _ _ (e c) (upper_digits c) (c.before.requires.least (above c))
+overflow_sub-result c = few_zeros _ _ (e c) (upper_digits c) (c.requires.least (above c))
 
 pub overflow_mul-result : goal.overflow_mul-result
-overflow_mul-result c = let h = c.before.requires.most in omega arith
+overflow_mul-result c = let h = c.requires.most in omega arith
 
 pub upper_word-requires : goal.upper_word-requires
 upper_word-requires c = ((upper_digits c).high, let h = (zeros c).0 in omega arith)
 
 pub overflow_add-result-then-h-gt0 : goal.overflow_add-result-then-h-gt0
-overflow_add-result-then-h-gt0 c = let h = c.before.before.requires.most in omega arith
+overflow_add-result-then-h-gt0 c = let h = c.requires.most in omega arith
 
 pub returns-then-h-gt0 : goal.returns-then-h-gt0
 unfolding nearest_bits nearest_digits
@@ -49,29 +49,29 @@ returns-then-h-gt0 c =
     cut m d = omega arith
 
 pub returns-then-l-eq0 : goal.returns-then-l-eq0
-returns-then-l-eq0 c = sym (zero_bits c.before.before.args.n c.before.before.args.e (none c.before.before.args.n c.before.if-h-gt0.false c.if-l-eq0.true))
+returns-then-l-eq0 c = sym (zero_bits c.args.n c.args.e (none c.args.n c.if-h-gt0.false c.if-l-eq0.true))
   where
     none : (n : ℕ) → n / 4294967296 ≤ 0 → n % 4294967296 ≡ 0 → n ≡ 0
     none n h l = omega arith
 
 module _ (c : goal.Else-l-eq0) where
   abbrev m : ℕ
-  m = c.before.before.args.n
+  m = c.args.n
 
   abbrev f : ℕ
-  f = c.before.before.args.e
+  f = c.args.e
 
   same : m % 4294967296 ≡ m
-  same = let h = c.before.if-h-gt0.false in omega arith
+  same = let h = c.if-h-gt0.false in omega arith
 
   above_zero : 0 < m
   above_zero = lt_of_not-le (λ h. c.if-l-eq0.false (same ∙ le_antisymm h zero-le))
 
   lower : (count_leading_zeros 32 m ≤ 31) × (m * 2 ^ count_leading_zeros 32 m < 4294967296) × (32 + count_leading_zeros 32 m ≡ count_leading_zeros 64 m)
-  lower = lower_zeros m above_zero (let h = c.before.if-h-gt0.false in omega arith)
+  lower = lower_zeros m above_zero (let h = c.if-h-gt0.false in omega arith)
 
   room : 32 + count_leading_zeros 32 m ≤ f
-  room = rw lower.2 (few_zeros m _ f (placed m above_zero (omega arith)) (c.before.before.requires.least above_zero))
+  room = rw lower.2 (few_zeros m _ f (placed m above_zero (omega arith)) (c.requires.least above_zero))
 
 pub overflow_sub-result-2 : goal.overflow_sub-result-2
 overflow_sub-result-2 c = omega (arith, room c)
@@ -80,13 +80,13 @@ pub overflow_sub-result-3 : goal.overflow_sub-result-3
 overflow_sub-result-3 c = rw (same c) (omega (arith, room c))
 
 pub overflow_mul-result-2 : goal.overflow_mul-result-2
-overflow_mul-result-2 c = let h = c.before.before.requires.most in omega arith
+overflow_mul-result-2 c = let h = c.requires.most in omega arith
 
 pub overflow_shl-result : goal.overflow_shl-result
 overflow_shl-result c = rw (same c) (let h = (lower c).0 in omega arith)
 
 pub overflow_add-result-3 : goal.overflow_add-result-3
-overflow_add-result-3 c = let h = c.before.before.requires.most in omega arith
+overflow_add-result-3 c = let h = c.requires.most in omega arith
 
 pub returns : goal.returns
 unfolding nearest_bits nearest_digits

@@ -6,7 +6,7 @@ use Rattle.logs.proofs.digits.Goals.{After-width-h, Else-u-h, Then-u-h}
 use Rattle.logs.proofs.digits.Goals as goal
 
 few : (c : After-width-h) → c.width-h.result ≤ 8
-few c = rw c.width-h.ensures (width_most c.before.args.z)
+few c = rw c.width-h.ensures (width_most c.args.z)
 
 pub overflow_add-u-2 : goal.overflow_add-u-2
 overflow_add-u-2 c = omega (arith, few c)
@@ -15,16 +15,16 @@ pub overflow_mul-h : goal.overflow_mul-h
 overflow_mul-h c = omega (arith, few c)
 
 -- what the test says
-open-digits : (c : Then-u-h) → is_left_open c.before.before.args.u (width_of c.before.before.args.z) ≡ true
+open-digits : (c : Then-u-h) → is_left_open c.args.u (width_of c.args.z) ≡ true
 unfolding is_left_open
-open-digits c = rw (← c.before.width-h.ensures) (lt-ltb _ _ c.if-u-h.true)
+open-digits c = rw (← c.width-h.ensures) (lt-ltb _ _ c.if-u-h.true)
 
-shut_digits : (c : Else-u-h) → is_left_open c.before.before.args.u (width_of c.before.before.args.z) ≡ false
+shut_digits : (c : Else-u-h) → is_left_open c.args.u (width_of c.args.z) ≡ false
 unfolding is_left_open
-shut_digits c = rw (← c.before.width-h.ensures) (le-ltb _ _ c.if-u-h.false)
+shut_digits c = rw (← c.width-h.ensures) (le-ltb _ _ c.if-u-h.false)
 
 pub settled-requires : goal.settled-requires
-settled-requires c = c.before.before.requires (open-digits c)
+settled-requires c = c.requires (open-digits c)
 
 pub returns-then-u-h : goal.returns-then-u-h
 unfolding log2_digits

@@ -14,4 +14,4 @@ fixed_bits-requires c = omega (arith, bits-few c.args.x c.requires)
 
 pub returns : goal.returns
 unfolding fixed_of
-returns c = fixed_promised c.before.args.x _ c.before.requires c.fixed_bits.ensures
+returns c = fixed_promised c.args.x _ c.requires c.fixed_bits.ensures

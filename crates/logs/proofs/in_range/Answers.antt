@@ -20,18 +20,18 @@ accepted x f low high =
     record { number = n; at-least-zero = (sign_clear x n (omega arith)).1; normal = beyond 8388607 0 subnormal x n (omega arith) }
 
 pub returns-then-x : goal.returns-then-x
-returns-then-x c = record { if_true = λ e. absurd (true≢false (sym e)); if_false = λ e a. no_number c.before.args.x c.if-x.true a.number }
+returns-then-x c = record { if_true = λ e. absurd (true≢false (sym e)); if_false = λ e a. no_number c.args.x c.if-x.true a.number }
 
 pub float_to_bits-b : goal.float_to_bits-b
-float_to_bits-b c = equal_to_itself c.before.args.x c.if-x.false
+float_to_bits-b c = equal_to_itself c.args.x c.if-x.false
 
 pub returns-then-b-lt8388608 : goal.returns-then-b-lt8388608
-returns-then-b-lt8388608 c = record { if_true = λ e. absurd (true≢false (sym e)); if_false = λ e a. omega (arith, normal-bits c.before.before.args.x a) }
+returns-then-b-lt8388608 c = record { if_true = λ e. absurd (true≢false (sym e)); if_false = λ e a. omega (arith, normal-bits c.args.x a) }
 
 pub returns : goal.returns
 returns c =
-    let x = c.before.before.args.x in
+    let x = c.args.x in
     record {
-      if_true = λ e. accepted x (subst T (sym c.before.before.well_formed.0.1) tt) c.if-b-lt8388608.false (omega (arith, ltb-true));
+      if_true = λ e. accepted x (subst T (sym c.well_formed.0.1) tt) c.if-b-lt8388608.false (omega (arith, ltb-true));
       if_false = λ e a. omega (arith, bits-few x a, ltb-false);
     }

@@ -14,13 +14,13 @@ first_word-f-requires c = omega (arith, c.if-n-ge4294967296.true)
 -- the first word of n, and how many zeros are before it
 module _ (c : After-first_word-f) where
   abbrev w : ℕ
-  w = c.before.before.before.args.w
+  w = c.args.w
 
   abbrev n : ℕ
-  n = c.before.before.distance-n.result
+  n = c.distance-n.result
 
   digits : Placed n (count_leading_zeros 64 n)
-  digits = placed n (omega (arith, c.before.if-n-ge4294967296.true)) (omega arith)
+  digits = placed n (omega (arith, c.if-n-ge4294967296.true)) (omega arith)
 
   word : c.first_word-f.result.m ≡ first_word n
   unfolding first_word
@@ -41,12 +41,12 @@ pub overflow_sub-result : goal.overflow_sub-result
 overflow_sub-result c = let f = c.before.before.before.before in rw (zeros f) (omega (arith, (digits f).small))
 
 pub overflow_add-result-then-f-ge16-2 : goal.overflow_add-result-then-f-ge16-2
-overflow_add-result-then-f-ge16-2 c = rw c.before.before.sign.ensures (omega (arith, sign-few (w c.before.before.before.before.before)))
+overflow_add-result-then-f-ge16-2 c = rw c.sign.ensures (omega (arith, sign-few (w c.before.before.before.before.before)))
 
 pub returns-then-f-ge16 : goal.returns-then-f-ge16
 returns-then-f-ge16 c =
     let f = c.before.before.before.before.before in
-    together _ _ _ (n f) _ _ _ c.before.before.sign.ensures f.before.before.distance-n.ensures (word f) (zeros f) (told _ _ _ _ c.before.before.before.if-f-ge16.true) (omega (arith, f.before.if-n-ge4294967296.true))
+    together _ _ _ (n f) _ _ _ c.sign.ensures f.before.before.distance-n.ensures (word f) (zeros f) (told _ _ _ _ c.if-f-ge16.true) (omega (arith, f.before.if-n-ge4294967296.true))
 
 pub returns : goal.returns
 returns c = c.rounded_with_care.ensures

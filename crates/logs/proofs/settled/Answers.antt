@@ -6,14 +6,14 @@ use Rattle.logs.proofs.settled.Goals.{After-fine}
 use Rattle.logs.proofs.settled.Goals as goal
 
 -- the digits compared are those of the power
-power : (c : After-fine) → let s = c.before.before in c.fine.result ≡ fine_of (fraction_of s.args.w s.args.u s.args.z)
-power c = c.fine.ensures ∙ ap fine_of c.before.fraction.ensures
+power : (c : After-fine) → c.fine.result ≡ fine_of (fraction_of c.args.w c.args.u c.args.z)
+power c = c.fine.ensures ∙ ap fine_of c.fraction.ensures
 
-above : (c : After-fine) → let s = c.before.before in c.fine.result / 2199023255552 < s.args.b % 8388608 → is_above s.args.b (fraction_of s.args.w s.args.u s.args.z) ≡ true
+above : (c : After-fine) → c.fine.result / 2199023255552 < c.args.b % 8388608 → is_above c.args.b (fraction_of c.args.w c.args.u c.args.z) ≡ true
 unfolding is_above
 above c h = rw (← power c) (lt-ltb _ _ h)
 
-below : (c : After-fine) → let s = c.before.before in s.args.b % 8388608 ≤ c.fine.result / 2199023255552 → is_above s.args.b (fraction_of s.args.w s.args.u s.args.z) ≡ false
+below : (c : After-fine) → c.args.b % 8388608 ≤ c.fine.result / 2199023255552 → is_above c.args.b (fraction_of c.args.w c.args.u c.args.z) ≡ false
 unfolding is_above
 below c h = rw (← power c) (le-ltb _ _ h)
 
@@ -21,22 +21,22 @@ pub returns-then-f-b : goal.returns-then-f-b
 unfolding settled_digits
 returns-then-f-b c =
     let f = c.before.before in
-    rw (lt-ltb f.before.before.args.w log_of_one c.before.if-w-lt-AT_ONE.true, above f c.if-f-b.true) (sym (add-zero _))
+    rw (lt-ltb f.before.before.args.w log_of_one c.if-w-lt-AT_ONE.true, above f c.if-f-b.true) (sym (add-zero _))
 
 pub returns-then-w-lt-AT_ONE : goal.returns-then-w-lt-AT_ONE
 unfolding settled_digits
 returns-then-w-lt-AT_ONE c =
     let f = c.before.before in
-    rw (lt-ltb f.before.before.args.w log_of_one c.before.if-w-lt-AT_ONE.true, below f c.if-f-b.false) refl
+    rw (lt-ltb f.before.before.args.w log_of_one c.if-w-lt-AT_ONE.true, below f c.if-f-b.false) refl
 
 pub returns-then-f-b-2 : goal.returns-then-f-b-2
 unfolding settled_digits
 returns-then-f-b-2 c =
     let f = c.before.before in
-    rw (le-ltb f.before.before.args.w log_of_one c.before.if-w-lt-AT_ONE.false, above f c.if-f-b-2.true) refl
+    rw (le-ltb f.before.before.args.w log_of_one c.if-w-lt-AT_ONE.false, above f c.if-f-b-2.true) refl
 
 pub returns : goal.returns
 unfolding settled_digits
 returns c =
     let f = c.before.before in
-    rw (le-ltb f.before.before.args.w log_of_one c.before.if-w-lt-AT_ONE.false, below f c.if-f-b-2.false) (sym (add-zero _))
+    rw (le-ltb f.before.before.args.w log_of_one c.if-w-lt-AT_ONE.false, below f c.if-f-b-2.false) (sym (add-zero _))

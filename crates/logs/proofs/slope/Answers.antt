@@ -8,25 +8,22 @@ pub step-requires : goal.step-requires
 step-requires c = (c.of_sixteenth-t.ensures.room-d, omega arith)
 
 pub step-requires-2 : goal.step-requires-2
-step-requires-2 c = (c.before.of_sixteenth-t.ensures.room_c, omega arith)
+step-requires-2 c = (c.of_sixteenth-t.ensures.room_c, omega arith)
 
 pub step-requires-3 : goal.step-requires-3
-step-requires-3 c = (c.before.before.of_sixteenth-t.ensures.room_b, omega arith)
+step-requires-3 c = (c.of_sixteenth-t.ensures.room_b, omega arith)
 
 pub step-requires-4 : goal.step-requires-4
-step-requires-4 c = (c.before.before.before.of_sixteenth-t.ensures.room_a, omega arith)
+step-requires-4 c = (c.of_sixteenth-t.ensures.room_a, omega arith)
 
 pub returns : goal.returns
 unfolding slope
 returns c =
-    let s3 = c.before in
-    let s2 = s3.before in
-    let s1 = s2.before in
-    let t = s1.before.of_sixteenth-t in
-    let v = (524288 - s1.before.before.args.b % 524288) * 512 in
+    let t = c.of_sixteenth-t in
+    let v = (524288 - c.args.b % 524288) * 512 in
     rw (← t.ensures.same)
     (horner_step 4294967296 v _ _
     (horner_step 4294967296 v _ _
-    (horner_step 4294967296 v _ _ (horner_step 4294967296 v _ _ (sym (horner-one 4294967296 _ v)) s1.step.ensures) s2.step-2.ensures)
-    s3.step-3.ensures)
+    (horner_step 4294967296 v _ _ (horner_step 4294967296 v _ _ (sym (horner-one 4294967296 _ v)) c.step.ensures) c.step-2.ensures)
+    c.step-3.ensures)
     c.step-4.ensures)

@@ -5,8 +5,8 @@ use Rattle.logs.proofs.width.Goals as goal
 
 pub returns-then-z-lt10 : goal.returns-then-z-lt10
 unfolding width_of
-returns-then-z-lt10 c = rw (lt-ltb c.before.args.z 10 c.if-z-lt10.true) refl
+returns-then-z-lt10 c = rw (lt-ltb c.args.z 10 c.if-z-lt10.true) refl
 
 pub returns-else-z-lt10 : goal.returns-else-z-lt10
 unfolding width_of
-returns-else-z-lt10 c = rw (le-ltb c.before.args.z 10 c.if-z-lt10.false) refl
+returns-else-z-lt10 c = rw (le-ltb c.args.z 10 c.if-z-lt10.false) refl

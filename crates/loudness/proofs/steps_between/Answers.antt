@@ -28,25 +28,25 @@ fixed_log2-requires-2 c = accepted (middle c.before.before)
 pub overflow_sub-d : goal.overflow_sub-d
 overflow_sub-d c =
     let s = c.before.before in
-    le_trans (le_of_eq c.before.fixed_log2-low.ensures.value) (le_trans (rises (low s) (high s) (b≤m _ _ _ _ s.requires.segment)) (le_of_eq (sym c.fixed_log2.ensures.value)))
+    le_trans (le_of_eq c.fixed_log2-low.ensures.value) (le_trans (rises (low s) (high s) (b≤m _ _ _ _ s.requires.segment)) (le_of_eq (sym c.fixed_log2.ensures.value)))
 
 pub overflow_sub-n : goal.overflow_sub-n
 overflow_sub-n c =
     let s = c.before.before.before in
-    le_trans (le_of_eq c.before.before.fixed_log2-low.ensures.value) (le_trans (rises (low s) (middle s) (le_of_lt s.requires.above)) (le_of_eq (sym c.fixed_log2-2.ensures.value)))
+    le_trans (le_of_eq c.fixed_log2-low.ensures.value) (le_trans (rises (low s) (middle s) (le_of_lt s.requires.above)) (le_of_eq (sym c.fixed_log2-2.ensures.value)))
 
 -- the rises from b to m, and to a
 module _ (c : After-fixed_log2-2) where
   abbrev start : Start
   start = c.before.before.before
 
-  span : c.before.fixed_log2.result - c.before.before.fixed_log2-low.result ≡ rise_of start.args.b start.args.m
+  span : c.fixed_log2.result - c.fixed_log2-low.result ≡ rise_of start.args.b start.args.m
   unfolding rise_of
-  span = ap₂ (λ (x y : ℕ). x - y) c.before.fixed_log2.ensures.value c.before.before.fixed_log2-low.ensures.value
+  span = ap₂ (λ (x y : ℕ). x - y) c.fixed_log2.ensures.value c.fixed_log2-low.ensures.value
 
-  rise : c.fixed_log2-2.result - c.before.before.fixed_log2-low.result ≡ rise_of start.args.b start.args.a
+  rise : c.fixed_log2-2.result - c.fixed_log2-low.result ≡ rise_of start.args.b start.args.a
   unfolding rise_of
-  rise = ap₂ (λ (x y : ℕ). x - y) c.fixed_log2-2.ensures.value c.before.before.fixed_log2-low.ensures.value
+  rise = ap₂ (λ (x y : ℕ). x - y) c.fixed_log2-2.ensures.value c.fixed_log2-low.ensures.value
 
   rise-le : rise_of start.args.b start.args.a ≤ rise_of start.args.b start.args.m
   rise-le = rise_most _ _ _ _ start.requires.segment _ (middle start) (le_of_lt start.requires.below)
@@ -78,9 +78,9 @@ nearest_step-requires c =
     let u = c.before.before in
     let g = (start u).requires.segment in
     let (f, h) = full _ (span_long _ _ _ _ g) (span_few _ _ _ _ g) in
-    rw (c.upper_word-2.ensures, c.before.upper_word.ensures, rise u, span u)
+    rw (c.upper_word-2.ensures, c.upper_word.ensures, rise u, span u)
     (record { steps = few _ _ _ _ g; within = word-most _ (span_long _ _ _ _ g) (span_few _ _ _ _ g) _ (rise-le u); full = f; word = h })
 
 pub returns : goal.returns
 unfolding steps_of places_of word_of
-returns c = let u = c.before.before.before in c.nearest_step.ensures ∙ rw (c.before.upper_word-2.ensures, c.before.before.upper_word.ensures, rise u, span u)
+returns c = let u = c.before.before.before in c.nearest_step.ensures ∙ rw (c.upper_word-2.ensures, c.upper_word.ensures, rise u, span u)

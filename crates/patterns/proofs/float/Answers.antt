@@ -10,5 +10,5 @@ use Rattle.patterns.proofs.float.Goals as goal
 
 pub float_from_bits-result : goal.float_from_bits-result
 float_from_bits-result c =
-    let b = c.before.args.b in
+    let b = c.args.b in
     subst (λ (t : Bool). T (not t)) (sym (nan_bits_above binary32 b ∙ le-ltb 2139095040 (b % 2147483648) c.if-b-gt2139095040.false)) tt

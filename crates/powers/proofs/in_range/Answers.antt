@@ -13,10 +13,10 @@ high = record { few = omega arith; first = inr (omega arith) }
 
 pub returns-then-b-lt2147483648 : goal.returns-then-b-lt2147483648
 returns-then-b-lt2147483648 c =
-    let x = c.before.before.args.x in
-    rw c.before.bits_of-b.ensures (clear_test 0xfc0000 132 0xfe0000 132 low high x (subst T (sym c.before.before.well_formed.0.1) tt) (omega arith) (rw c.before.bits_of-b.ensures at c.if-b-lt2147483648.true))
+    let x = c.args.x in
+    rw c.bits_of-b.ensures (clear_test 0xfc0000 132 0xfe0000 132 low high x (subst T (sym c.well_formed.0.1) tt) (omega arith) (rw c.bits_of-b.ensures at c.if-b-lt2147483648.true))
 
 pub returns : goal.returns
 returns c =
-    let x = c.before.before.args.x in
-    rw c.before.bits_of-b.ensures (set_test 0xfc0000 132 0xfe0000 132 low high x (subst T (sym c.before.before.well_formed.0.1) tt) (omega arith) (rw c.before.bits_of-b.ensures at c.if-b-lt2147483648.false))
+    let x = c.args.x in
+    rw c.bits_of-b.ensures (set_test 0xfc0000 132 0xfe0000 132 low high x (subst T (sym c.well_formed.0.1) tt) (omega arith) (rw c.bits_of-b.ensures at c.if-b-lt2147483648.false))

@@ -13,8 +13,8 @@ top : (c : Start) → c.args.c ≤ 253 * 2 ^ 32
 top c = le_trans (le_of_eq c.requires.1) (cut_top c.args.x c.requires.0)
 
 -- what the test says, of x
-tested : (c : After-is_open) → c.is_open.result ≡ is_left_open (raised (cut_of c.before.before.args.x % 2 ^ 32))
-tested c = c.is_open.ensures ∙ ap is_left_open (c.before.raise-q.ensures ∙ ap (λ (n : ℕ). raised (n % 2 ^ 32)) c.before.before.requires.1)
+tested : (c : After-is_open) → c.is_open.result ≡ is_left_open (raised (cut_of c.args.x % 2 ^ 32))
+tested c = c.is_open.ensures ∙ ap is_left_open (c.raise-q.ensures ∙ ap (λ (n : ℕ). raised (n % 2 ^ 32)) c.requires.1)
 
 pub settled-requires : goal.settled-requires
 settled-requires c =
@@ -28,10 +28,9 @@ bits x b e = ap (λ (t : Bool). cut_of x / 2 ^ 32 * 8388608 + cond t (fine_digit
 
 pub returns-then-is_open : goal.returns-then-is_open
 returns-then-is_open c =
-    let s = c.before.before.before.before in
     c.settled.ensures
-    ∙ ap (λ (n : ℕ). n / 2 ^ 32 * 8388608 + fine_digits (fraction_of s.args.x)) s.requires.1
-    ∙ sym (bits s.args.x true (sym (tested c.before.before) ∙ c.before.if-is_open.true))
+    ∙ ap (λ (n : ℕ). n / 2 ^ 32 * 8388608 + fine_digits (fraction_of c.args.x)) c.requires.1
+    ∙ sym (bits c.args.x true (sym (tested c.before.before) ∙ c.if-is_open.true))
 
 pub put_together-requires : goal.put_together-requires
 put_together-requires c = omega (arith, top c.before.before.before)
@@ -39,8 +38,7 @@ put_together-requires c = omega (arith, top c.before.before.before)
 pub returns : goal.returns
 unfolding power_digits
 returns c =
-    let s = c.before.before.before.before in
     c.put_together.ensures
-    ∙ ap (λ (r : ℕ). s.args.c / 4294967296 * 8388608 + rounded_digits r) c.before.before.before.raise-q.ensures
-    ∙ ap (λ (n : ℕ). n / 2 ^ 32 * 8388608 + power_digits (n % 2 ^ 32)) s.requires.1
-    ∙ sym (bits s.args.x false (sym (tested c.before.before) ∙ c.before.if-is_open.false))
+    ∙ ap (λ (r : ℕ). c.args.c / 4294967296 * 8388608 + rounded_digits r) c.raise-q.ensures
+    ∙ ap (λ (n : ℕ). n / 2 ^ 32 * 8388608 + power_digits (n % 2 ^ 32)) c.requires.1
+    ∙ sym (bits c.args.x false (sym (tested c.before.before) ∙ c.if-is_open.false))

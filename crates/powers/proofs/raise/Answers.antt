@@ -18,12 +18,12 @@ pub overflow_cast-z-3 : goal.overflow_cast-z-3
 overflow_cast-z-3 c = omega (arith, words c.args.f c.args.f (omega arith) (omega arith))
 
 -- both products together, by what the steps say of their sizes
-both : (c : After-step-o1) → let f = c.before.before.before.before.before.args.f in f * c.step-o1.result + f * f / 4294967296 * c.before.step-e2.result < 18446744073709551616
+both : (c : After-step-o1) → let f = c.args.f in f * c.step-o1.result + f * f / 4294967296 * c.step-e2.result < 18446744073709551616
 both c =
-    let f = c.before.before.before.before.before.args.f in
+    let f = c.args.f in
     let small : f ≤ 4294967295 = omega arith in
     let square : f * f / 4294967296 ≤ 4294967295 = omega (arith, words f f (omega arith) (omega arith)) in
-    together f c.step-o1.result (f * f / 4294967296) c.before.step-e2.result small square (omega arith) (omega arith)
+    together f c.step-o1.result (f * f / 4294967296) c.step-e2.result small square (omega arith) (omega arith)
   where
     together : (f o z e : ℕ) → f ≤ 4294967295 → z ≤ 4294967295 → o ≤ 3221292158 → e ≤ 1073675138 → f * o + z * e < 18446744073709551616
     together f o z e h k i j =
@@ -44,14 +44,14 @@ pub overflow_cast-result-5 : goal.overflow_cast-result-5
 overflow_cast-result-5 c = omega (arith, both c)
 
 -- the chain of the odd terms, and that of the even ones
-odd : (c : After-step-o1) → c.step-o1.result ≡ horner D (0xb1721808 ∷ 0x0e3593ba ∷ 0x0057f139 ∷ 0x00016783 ∷ []) (c.before.before.before.before.before.args.f * c.before.before.before.before.before.args.f / D)
-odd c = horner_step D _ _ _ (horner_step D _ _ _ (horner_step D _ _ _ (sym (horner-one D _ _)) c.before.before.before.before.step-o5.ensures.0) c.before.before.step-o3.ensures.0) c.step-o1.ensures.0
+odd : (c : After-step-o1) → c.step-o1.result ≡ horner D (0xb1721808 ∷ 0x0e3593ba ∷ 0x0057f139 ∷ 0x00016783 ∷ []) (c.args.f * c.args.f / D)
+odd c = horner_step D _ _ _ (horner_step D _ _ _ (horner_step D _ _ _ (sym (horner-one D _ _)) c.step-o5.ensures.0) c.step-o3.ensures.0) c.step-o1.ensures.0
 
-even : (c : After-step-o1) → c.before.step-e2.result ≡ horner D (0x3d7f7a4b ∷ 0x02761501 ∷ 0x00096c36 ∷ []) (c.before.before.before.before.before.args.f * c.before.before.before.before.before.args.f / D)
-even c = horner_step D _ _ _ (horner_step D _ _ _ (sym (horner-one D _ _)) c.before.before.before.step-e4.ensures.0) c.before.step-e2.ensures.0
+even : (c : After-step-o1) → c.step-e2.result ≡ horner D (0x3d7f7a4b ∷ 0x02761501 ∷ 0x00096c36 ∷ []) (c.args.f * c.args.f / D)
+even c = horner_step D _ _ _ (horner_step D _ _ _ (sym (horner-one D _ _)) c.step-e4.ensures.0) c.step-e2.ensures.0
 
 pub returns : goal.returns
 unfolding raised coefficients chains alternate others
 returns c =
-    let f = c.before.before.before.before.before.args.f in
+    let f = c.args.f in
     add_comm _ D ∙ ap₂ (λ (o e : ℕ). D + (f * o + f * f / D * e) / D) (odd c) (even c)

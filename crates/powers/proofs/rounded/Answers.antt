@@ -5,4 +5,4 @@ use Rattle.powers.proofs.rounded.Goals as goal
 
 pub returns : goal.returns
 unfolding rounded_power power_digits
-returns c = c.put_together.ensures ∙ ap (λ (r : ℕ). c.before.before.args.c / 4294967296 * 8388608 + rounded_digits r) c.before.raise.ensures
+returns c = c.put_together.ensures ∙ ap (λ (r : ℕ). c.args.c / 4294967296 * 8388608 + rounded_digits r) c.raise.ensures

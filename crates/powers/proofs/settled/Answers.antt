@@ -4,12 +4,12 @@ use Rattle.powers.specs.Value.{rounded_digits, fine_digits}
 use Rattle.powers.proofs.settled.Goals as goal
 
 pub put_together-requires : goal.put_together-requires
-put_together-requires c = c.before.before.requires.2
+put_together-requires c = c.requires.2
 
 pub returns : goal.returns
 unfolding fine_digits
 returns c =
-    let e = c.before.before.before.args.e in
+    let e = c.args.e in
     c.put_together.ensures
-    ∙ ap (λ (v : ℕ). e * 8388608 + rounded_digits (v / 2 ^ 32 + 2 ^ 32)) c.before.fine.ensures
-    ∙ ap (λ (t : ℕ). e * 8388608 + fine_digits t) c.before.before.fraction.ensures
+    ∙ ap (λ (v : ℕ). e * 8388608 + rounded_digits (v / 2 ^ 32 + 2 ^ 32)) c.fine.ensures
+    ∙ ap (λ (t : ℕ). e * 8388608 + fine_digits t) c.fraction.ensures

@@ -16,22 +16,22 @@ product a top h =
     rw e (mul-le-mul digits small)
 
 pub overflow_mul-result : goal.overflow_mul-result
-overflow_mul-result c = omega (arith, product c.before.args.a c.before.requires c.if-e-ge118.true)
+overflow_mul-result c = omega (arith, product c.args.a c.requires c.if-e-ge118.true)
 
 pub returns-then-e-ge118 : goal.returns-then-e-ge118
 returns-then-e-ge118 c =
-    let a = c.before.args.a in
-    (ap (λ (n : ℕ). (a % 8388608 + 8388608) * n) (unit (a / 8388608 - 118) (omega arith)).0 ∙ sym (steps-whole a c.if-e-ge118.true), product a c.before.requires c.if-e-ge118.true)
+    let a = c.args.a in
+    (ap (λ (n : ℕ). (a % 8388608 + 8388608) * n) (unit (a / 8388608 - 118) (omega arith)).0 ∙ sym (steps-whole a c.if-e-ge118.true), product a c.requires c.if-e-ge118.true)
 
 -- a quotient of 24 digits is small
 small : (m d : ℕ) → m ≤ 16777216 → m / d ≤ 2 ^ 39
 small m d h = le_trans (div-le_self m d) (omega arith)
 
 pub overflow_cast-result-then-e-ge94 : goal.overflow_cast-result-then-e-ge94
-overflow_cast-result-then-e-ge94 c = omega (arith, small (c.before.before.args.a % 8388608 + 8388608) (2 ^ (118 - c.before.before.args.a / 8388608)) (omega arith))
+overflow_cast-result-then-e-ge94 c = omega (arith, small (c.args.a % 8388608 + 8388608) (2 ^ (118 - c.args.a / 8388608)) (omega arith))
 
 pub returns-then-e-ge94 : goal.returns-then-e-ge94
-returns-then-e-ge94 c = let a = c.before.before.args.a in (sym (steps_cut a c.if-e-ge94.true c.before.if-e-ge118.false), small (a % 8388608 + 8388608) (2 ^ (118 - a / 8388608)) (omega arith))
+returns-then-e-ge94 c = let a = c.args.a in (sym (steps_cut a c.if-e-ge94.true c.if-e-ge118.false), small (a % 8388608 + 8388608) (2 ^ (118 - a / 8388608)) (omega arith))
 
 pub returns : goal.returns
-returns c = (sym (steps_low c.before.before.args.a (omega arith)), omega arith)
+returns c = (sym (steps_low c.args.a (omega arith)), omega arith)

@@ -5,4 +5,4 @@ pub returns-then-x-eq0 : goal.returns-then-x-eq0
 returns-then-x-eq0 c = c.digits.ensures
 
 pub returns-else-x-eq0 : goal.returns-else-x-eq0
-returns-else-x-eq0 c = c.before.before.before.before.requires.1 c.before.if-x-eq0.false
+returns-else-x-eq0 c = c.requires.1 c.if-x-eq0.false

@@ -4,7 +4,7 @@ use Rattle.weights.proofs.Keys.{key_clear, key_set}
 use Rattle.weights.proofs.key.Goals as goal
 
 pub returns-then-b-lt2147483648 : goal.returns-then-b-lt2147483648
-returns-then-b-lt2147483648 c = sym (key_clear c.before.args.b c.if-b-lt2147483648.true)
+returns-then-b-lt2147483648 c = sym (key_clear c.args.b c.if-b-lt2147483648.true)
 
 pub returns-else-b-lt2147483648 : goal.returns-else-b-lt2147483648
-returns-else-b-lt2147483648 c = sym (key_set c.before.args.b c.if-b-lt2147483648.false)
+returns-else-b-lt2147483648 c = sym (key_set c.args.b c.if-b-lt2147483648.false)

@@ -4,7 +4,7 @@ use mathlib.Core.Path.{refl}
 use Rattle.weights.proofs.larger_of.Goals as goal
 
 pub returns-then-a-b : goal.returns-then-a-b
-returns-then-a-b c = rw (lt-ltb c.before.args.a c.before.args.b c.if-a-b.true) refl
+returns-then-a-b c = rw (lt-ltb c.args.a c.args.b c.if-a-b.true) refl
 
 pub returns-else-a-b : goal.returns-else-a-b
-returns-else-a-b c = rw (le-ltb c.before.args.a c.before.args.b c.if-a-b.false) refl
+returns-else-a-b c = rw (le-ltb c.args.a c.args.b c.if-a-b.false) refl

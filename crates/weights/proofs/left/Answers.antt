@@ -14,28 +14,28 @@ pub overflow_shr-u : goal.overflow_shr-u
 overflow_shr-u c = omega (arith, c.if-k-le20.true)
 
 pub overflow_cast-result-then-k-le20 : goal.overflow_cast-result-then-k-le20
-overflow_cast-result-then-k-le20 c = omega (arith, div-le_self 1048576 (2 ^ c.before.args.k))
+overflow_cast-result-then-k-le20 c = omega (arith, div-le_self 1048576 (2 ^ c.args.k))
 
 pub overflow_mul-result : goal.overflow_mul-result
-overflow_mul-result c = omega (arith, few c.before.args.q (1048576 / 2 ^ c.before.args.k) (omega arith) (div-le_self 1048576 (2 ^ c.before.args.k)))
+overflow_mul-result c = omega (arith, few c.args.q (1048576 / 2 ^ c.args.k) (omega arith) (div-le_self 1048576 (2 ^ c.args.k)))
 
 pub overflow_cast-result-then-k-le20-2 : goal.overflow_cast-result-then-k-le20-2
-overflow_cast-result-then-k-le20-2 c = omega (arith, div-le_self 1048576 (2 ^ c.before.args.k))
+overflow_cast-result-then-k-le20-2 c = omega (arith, div-le_self 1048576 (2 ^ c.args.k))
 
 pub overflow_mul-result-then-k-le20 : goal.overflow_mul-result-then-k-le20
-overflow_mul-result-then-k-le20 c = omega (arith, div-le_self 1048576 (2 ^ c.before.args.k))
+overflow_mul-result-then-k-le20 c = omega (arith, div-le_self 1048576 (2 ^ c.args.k))
 
 pub overflow_add-result : goal.overflow_add-result
-overflow_add-result c = omega (arith, few c.before.args.q (1048576 / 2 ^ c.before.args.k) (omega arith) (div-le_self 1048576 (2 ^ c.before.args.k)))
+overflow_add-result c = omega (arith, few c.args.q (1048576 / 2 ^ c.args.k) (omega arith) (div-le_self 1048576 (2 ^ c.args.k)))
 
 pub returns-then-k-le20 : goal.returns-then-k-le20
-returns-then-k-le20 c = let start = c.before in shared start.args.q (1048576 / 2 ^ start.args.k) ∙ left_all (start.args.q + 2 ^ 32) start.args.k c.if-k-le20.true
+returns-then-k-le20 c = shared c.args.q (1048576 / 2 ^ c.args.k) ∙ left_all (c.args.q + 2 ^ 32) c.args.k c.if-k-le20.true
   where
     shared : (q u : ℕ) → q * u + u * 4294967296 ≡ (q + 2 ^ 32) * u
     shared q u = omega arith
 
 pub overflow_sub-result : goal.overflow_sub-result
-overflow_sub-result c = le_of_lt c.before.if-k-le20.false
+overflow_sub-result c = le_of_lt c.if-k-le20.false
 
 pub overflow_cast-result-then-k-lt64-2 : goal.overflow_cast-result-then-k-lt64-2
 overflow_cast-result-then-k-lt64-2 c = omega (arith, c.if-k-lt64.true)
@@ -44,7 +44,7 @@ pub overflow_shr-result : goal.overflow_shr-result
 overflow_shr-result c = omega (arith, c.if-k-lt64.true)
 
 pub returns-then-k-lt64 : goal.returns-then-k-lt64
-returns-then-k-lt64 c = let start = c.before.before in left_first (start.args.q + 2 ^ 32) start.args.k (le_of_lt c.before.if-k-le20.false)
+returns-then-k-lt64 c = left_first (c.args.q + 2 ^ 32) c.args.k (le_of_lt c.if-k-le20.false)
 
 pub returns-else-k-lt64 : goal.returns-else-k-lt64
-returns-else-k-lt64 c = let start = c.before.before in sym (left_none (start.args.q + 2 ^ 32) start.args.k (omega arith) c.if-k-lt64.false)
+returns-else-k-lt64 c = sym (left_none (c.args.q + 2 ^ 32) c.args.k (omega arith) c.if-k-lt64.false)

@@ -7,9 +7,8 @@ use Rattle.weights.proofs.Source.{own}
 use Rattle.weights.proofs.softmax2_in_place.Goals as goal
 
 pub weigh-requires : goal.weigh-requires
-weigh-requires c = let p = c.before.before.before.args.p.now in ap length (own [] p refl) ∙ length-map p (of_bits binary32)
+weigh-requires c = let p = c.args.p.now in ap length (own [] p refl) ∙ length-map p (of_bits binary32)
 
 pub returns : goal.returns
 returns c =
-    let w = c.before.before in
-    rw (own [] w.before.before.before.before.args.p.now refl) at w.weigh.ensures
+    rw (own [] c.args.p.now refl) at c.weigh.ensures

@@ -6,8 +6,8 @@ use Rattle.weights.proofs.unlocked.Goals as goal
 
 pub returns-then-k-lt2147483648 : goal.returns-then-k-lt2147483648
 unfolding pattern_of
-returns-then-k-lt2147483648 c = rw (lt-ltb c.before.args.k 2147483648 c.if-k-lt2147483648.true) refl
+returns-then-k-lt2147483648 c = rw (lt-ltb c.args.k 2147483648 c.if-k-lt2147483648.true) refl
 
 pub returns-else-k-lt2147483648 : goal.returns-else-k-lt2147483648
 unfolding pattern_of
-returns-else-k-lt2147483648 c = rw (le-ltb c.before.args.k 2147483648 c.if-k-lt2147483648.false) refl
+returns-else-k-lt2147483648 c = rw (le-ltb c.args.k 2147483648 c.if-k-lt2147483648.false) refl

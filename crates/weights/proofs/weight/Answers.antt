@@ -39,7 +39,7 @@ pub nearest_bits-requires : goal.nearest_bits-requires
 nearest_bits-requires c = normal _ _ _ (product c.before) c.if-c-e.true
 
 pub overflow_add-c : goal.overflow_add-c
-overflow_add-c c = small-sum' _ c.before.requires.1.high
+overflow_add-c c = small-sum' _ c.requires.1.high
 
 pub overflow_sub-c : goal.overflow_sub-c
 overflow_sub-c c = le_trans c.if-c-e.false (omega arith)
@@ -57,13 +57,13 @@ pub overflow_shr-result : goal.overflow_shr-result
 overflow_shr-result c = c.if-c-e-lt64.true
 
 pub overflow_cast-result-then-c-e-lt64 : goal.overflow_cast-result-then-c-e-lt64
-overflow_cast-result-then-c-e-lt64 c = short (few_units _ _ _ (product c.before.before) c.before.if-c-e.false)
+overflow_cast-result-then-c-e-lt64 c = short (few_units _ _ _ (product c.before.before) c.if-c-e.false)
 
 pub returns-then-c-e : goal.returns-then-c-e
-returns-then-c-e c = c.nearest_bits.ensures ∙ sym (bits-more _ _ _ (product c.before.before) c.before.if-c-e.true)
+returns-then-c-e c = c.nearest_bits.ensures ∙ sym (bits-more _ _ _ (product c.before.before) c.if-c-e.true)
 
 pub returns-then-c-e-lt64 : goal.returns-then-c-e-lt64
-returns-then-c-e-lt64 c = sym (bits-few _ _ _ (product c.before.before) c.before.if-c-e.false)
+returns-then-c-e-lt64 c = sym (bits-few _ _ _ (product c.before.before) c.if-c-e.false)
 
 pub returns-else-c-e-lt64 : goal.returns-else-c-e-lt64
-returns-else-c-e-lt64 c = let p = product c.before.before in sym (few-none _ _ _ p c.before.if-c-e.false c.if-c-e-lt64.false) ∙ sym (bits-few _ _ _ p c.before.if-c-e.false)
+returns-else-c-e-lt64 c = let p = product c.before.before in sym (few-none _ _ _ p c.if-c-e.false c.if-c-e-lt64.false) ∙ sym (bits-few _ _ _ p c.if-c-e.false)

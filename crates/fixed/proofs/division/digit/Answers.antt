@@ -21,7 +21,7 @@ pub overflow_cast-result : goal.overflow_cast-result
 overflow_cast-result c = omega (arith, first c.before)
 
 pub returns-then-m-w : goal.returns-then-m-w
-returns-then-m-w c = is_digit c.before.args.r c.before.args.b c.before.args.d c.before.requires.1 c.before.requires.2 _ _ (record { same = omega (arith, first c.before); less = c.if-m-w.true })
+returns-then-m-w c = is_digit c.args.r c.args.b c.args.d c.requires.1 c.requires.2 _ _ (record { same = omega (arith, first c.before); less = c.if-m-w.true })
 
 pub overflow_add-result : goal.overflow_add-result
 overflow_add-result c = omega (arith, first c.before.before)

@@ -27,9 +27,8 @@ digit-l-requires c = let b = both c.before in (rw b.divisor b.top, c.digit-h.ens
 
 pub returns : goal.returns
 returns c =
-    let l = c.before.before in
-    let start = l.before.before in
+    let start = c.before.before.before.before in
     let b = both start in
     let z = count_leading_zeros 32 start.args.d in
-    unshifted start.args.n start.args.d (2 ^ z) _ l.digit-l.result.r (pow_pos z)
-    (rw (b.divisor, b.number) at (two_digits (start.args.n * 2 ^ z % 2 ^ 64) (start.args.d * 2 ^ z % 2 ^ 32) _ _ _ _ l.before.digit-h.ensures.0 l.digit-l.ensures.0))
+    unshifted start.args.n start.args.d (2 ^ z) _ c.digit-l.result.r (pow_pos z)
+    (rw (b.divisor, b.number) at (two_digits (start.args.n * 2 ^ z % 2 ^ 64) (start.args.d * 2 ^ z % 2 ^ 32) _ _ _ _ c.digit-h.ensures.0 c.digit-l.ensures.0))

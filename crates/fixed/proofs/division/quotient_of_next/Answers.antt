@@ -6,4 +6,4 @@ use native.Mathlib.Omega.{arith}
 use Rattle.fixed.proofs.division.quotient_of_next.Goals as goal
 
 pub returns : goal.returns
-returns c = let last : 4294967296 ≡ c.before.args.d + 1 = omega arith in ap (λ (k : ℕ). c.before.args.n / k) last
+returns c = let last : 4294967296 ≡ c.args.d + 1 = omega arith in ap (λ (k : ℕ). c.args.n / k) last

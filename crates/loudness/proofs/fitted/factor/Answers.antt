@@ -9,20 +9,20 @@ positive : (s : Start) → 0 < s.args.h
 positive s = omega (arith, s.requires.1)
 
 -- the first quotient from both sides
-below : (c : After-quotient-q) → c.quotient-q.result * c.before.args.h ≤ c.before.args.k * 8589934592
-below c = rw c.quotient-q.ensures (div-mul-le_self (c.before.args.k * 8589934592) c.before.args.h)
+below : (c : After-quotient-q) → c.quotient-q.result * c.args.h ≤ c.args.k * 8589934592
+below c = rw c.quotient-q.ensures (div-mul-le_self (c.args.k * 8589934592) c.args.h)
 
-rest : (c : After-quotient-q) → c.before.args.k * 8589934592 - c.quotient-q.result * c.before.args.h < c.before.args.h
-rest c = rw c.quotient-q.ensures (left (c.before.args.k * 8589934592) c.before.args.h (positive c.before))
+rest : (c : After-quotient-q) → c.args.k * 8589934592 - c.quotient-q.result * c.args.h < c.args.h
+rest c = rw c.quotient-q.ensures (left (c.args.k * 8589934592) c.args.h (positive c.before))
   where
     left : (n h : ℕ) → 0 < h → n - n / h * h < h
     left n h p = let u = lt-div-mul-add {a = n} {b = h} p in omega arith
 
 few : (c : After-quotient-q) → c.quotient-q.result ≤ 4092
-few c = let l = c.before.requires.0 in omega (arith, below c, mul-le-mul_left c.quotient-q.result c.before.requires.1)
+few c = let l = c.requires.0 in omega (arith, below c, mul-le-mul_left c.quotient-q.result c.requires.1)
 
 pub overflow_mul-r : goal.overflow_mul-r
-overflow_mul-r c = omega (arith, below c, c.before.requires.0)
+overflow_mul-r c = omega (arith, below c, c.requires.0)
 
 pub overflow_sub-r : goal.overflow_sub-r
 overflow_sub-r c = below c

@@ -23,50 +23,49 @@ fixed_log2-requires c = accepted (high c.before)
 pub overflow_sub-d : goal.overflow_sub-d
 overflow_sub-d c =
     let s = c.before.before in
-    le_trans (le_of_eq c.before.fixed_log2-low.ensures.value) (le_trans (rises (low s) (high s) (b≤m _ _ _ _ s.requires)) (le_of_eq (sym c.fixed_log2.ensures.value)))
+    le_trans (le_of_eq c.fixed_log2-low.ensures.value) (le_trans (rises (low s) (high s) (b≤m _ _ _ _ s.requires)) (le_of_eq (sym c.fixed_log2.ensures.value)))
 
 -- the span from b to m
-span : (c : After-fixed_log2) → c.fixed_log2.result - c.before.fixed_log2-low.result ≡ rise_of c.before.before.args.b c.before.before.args.m
+span : (c : After-fixed_log2) → c.fixed_log2.result - c.fixed_log2-low.result ≡ rise_of c.args.b c.args.m
 unfolding rise_of
-span c = ap₂ (λ (x y : ℕ). x - y) c.fixed_log2.ensures.value c.before.fixed_log2-low.ensures.value
+span c = ap₂ (λ (x y : ℕ). x - y) c.fixed_log2.ensures.value c.fixed_log2-low.ensures.value
 
 pub overflow_cast-s : goal.overflow_cast-s
-overflow_cast-s c = omega (arith, span c, span_few _ _ _ _ c.before.before.requires)
+overflow_cast-s c = omega (arith, span c, span_few _ _ _ _ c.requires)
 
 pub overflow_shl-result : goal.overflow_shl-result
 unfolding places_of
 overflow_shl-result c =
-    let g = c.before.before.requires in
+    let g = c.requires in
     let (a, b, l, u) = places _ (span_long _ _ _ _ g) (span_few _ _ _ _ g) in
     rw (span c) (omega arith)
 
 pub overflow_sub-c : goal.overflow_sub-c
-overflow_sub-c c = c.before.before.requires.order
+overflow_sub-c c = c.requires.order
 
 pub upper_word-requires : goal.upper_word-requires
 unfolding places_of
 upper_word-requires c =
-    let g = c.before.before.requires in
+    let g = c.requires in
     let (a, b, l, u) = places _ (span_long _ _ _ _ g) (span_few _ _ _ _ g) in
     rw (span c) (u, omega arith)
 
 pub factor-requires : goal.factor-requires
 unfolding places_of word_of
 factor-requires c =
-    let g = c.before.before.before.requires in
+    let g = c.requires in
     rw (c.upper_word.ensures, span c.before) (few _ _ _ _ g, (full _ (span_long _ _ _ _ g) (span_few _ _ _ _ g)).0)
 
 pub returns : goal.returns
 unfolding places_of word_of span_of
 returns c =
-    let u = c.before in
-    let v = u.before in
+    let v = c.before.before in
     let g = v.before.before.requires in
     let (x, y, l, r) = places _ (span_long _ _ _ _ g) (span_few _ _ _ _ g) in
     record {
       level = v.before.fixed_log2-low.ensures.value;
       places = rw (span v) (power _ y);
-      factor = c.factor.ensures ∙ ap (factor_of (v.before.before.args.c - v.before.before.args.t)) (rw (u.upper_word.ensures, span v));
+      factor = c.factor.ensures ∙ ap (factor_of (v.before.before.args.c - v.before.before.args.t)) (rw (c.upper_word.ensures, span v));
     }
   where
     power : (s : ℕ) → s ≤ 10 → 1 * 2 ^ s % 4294967296 ≡ 2 ^ s

@@ -6,8 +6,8 @@ use Rattle.loudness.proofs.fitted.past.Goals as goal
 
 pub returns : goal.returns
 returns c =
-    let s = c.before.before.before.before.args in
-    let same = c.rise.ensures ∙ ap₂ rise_to (rest s.w.now) c.before.fixed_bits.ensures in
+    let s = c.args in
+    let same = c.rise.ensures ∙ ap₂ rise_to (rest s.w.now) c.fixed_bits.ensures in
     record {
       if_true = λ e. lt_of_le_of_lt (le_of_eq (sym same)) (ltb-true _ _ e);
       if_false = λ e h. not-le_of_lt (lt_of_le_of_lt (le_of_eq same) h) (ltb-false _ _ e);

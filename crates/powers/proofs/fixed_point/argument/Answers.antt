@@ -6,12 +6,12 @@ use Rattle.powers.proofs.Base.{accepts}
 use Rattle.powers.proofs.fixed_point.argument.Goals as goal
 
 pub cut_off-requires-else-natural : goal.cut_off-requires-else-natural
-cut_off-requires-else-natural c = accepts c.before.requires
+cut_off-requires-else-natural c = accepts c.requires
 
 pub returns-then-natural : goal.returns-then-natural
 unfolding argument_of
-returns-then-natural c = let start = c.before.before in c.cut_off.ensures ∙ ap (λ (base : Base). argument_of base start.args.x) (sym c.before.if-natural.true)
+returns-then-natural c = c.cut_off.ensures ∙ ap (λ (base : Base). argument_of base c.args.x) (sym c.if-natural.true)
 
 pub returns-else-natural : goal.returns-else-natural
 unfolding argument_of
-returns-else-natural c = let start = c.before.before in c.cut_off-else-natural.ensures ∙ ap (λ (base : Base). argument_of base start.args.x) (sym c.before.if-natural.false)
+returns-else-natural c = c.cut_off-else-natural.ensures ∙ ap (λ (base : Base). argument_of base c.args.x) (sym c.if-natural.false)

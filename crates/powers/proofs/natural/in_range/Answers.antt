@@ -40,10 +40,10 @@ fitting : (c : Start) → T (fits binary32 c.args.x)
 fitting c = subst T (sym c.well_formed.0.1) tt
 
 pub returns-then-x : goal.returns-then-x
-returns-then-x c = record { if_true = λ e. absurd (true≢false (sym e)); if_false = λ e a. no_number c.before.args.x c.if-x.true a.number }
+returns-then-x c = record { if_true = λ e. absurd (true≢false (sym e)); if_false = λ e a. no_number c.args.x c.if-x.true a.number }
 
 pub float_to_bits-b : goal.float_to_bits-b
-float_to_bits-b c = equal_to_itself c.before.args.x c.if-x.false
+float_to_bits-b c = equal_to_itself c.args.x c.if-x.false
 
 pub returns-then-b-le1118699520 : goal.returns-then-b-le1118699520
 returns-then-b-le1118699520 c = let start = c.before.before in record { if_true = λ e. near start.args.x (fitting start) c.if-b-le1118699520.true; if_false = λ e. absurd (true≢false e) }

@@ -4,7 +4,7 @@ use Rattle.powers.proofs.NaturalTaken.{steps-none, steps-some}
 use Rattle.powers.proofs.natural.steps.Goals as goal
 
 pub returns-then-e-lt94 : goal.returns-then-e-lt94
-returns-then-e-lt94 c = sym (steps-none c.before.args.a (omega arith))
+returns-then-e-lt94 c = sym (steps-none c.args.a (omega arith))
 
 pub returns : goal.returns
-returns c = sym (steps-some c.before.args.a (omega arith))
+returns c = sym (steps-some c.args.a (omega arith))
