@@ -13,13 +13,10 @@ use borrow.Author.Tests.{ltb-true, ltb-false, leb-false}
 -- It gives up where a multiple of b lies in the arc itself, and when f rounds did not decide.
 unfoldable pub free : ℕ → ℕ → ℕ → ℕ → ℕ → ℕ → Bool
 free zero n b m l w = false
-free (suc f) n b m l w =
-    let reach = b * n in elim (ltb reach l) [
-      | true ↦ true
-      | false ↦
-          let s = (l + w) % b in
-          elim (leb s w) [ true ↦ false | false ↦ free f ((reach - l) / m) (m % b) b (b - s) w ]
-    ]
+free (suc f) n b m l w = elim (ltb (b * n) l) [
+  | true ↦ true
+  | false ↦ elim (leb ((l + w) % b) w) [ true ↦ false | false ↦ free f ((b * n - l) / m) (m % b) b (b - (l + w) % b) w ]
+]
 
 -- the i-th step stands in the arc after y rounds
 pub record Hit (b m l w i y : ℕ) : Type 0 where
@@ -43,27 +40,6 @@ module _ {b m l w i y : ℕ} (pos : 0 < b) (mpos : 0 < m) (h : Hit b m l w i y) 
       where
         h' : Hit b (b * Q + r) l w (Q * y + P + suc z) y
         h' = rw (circle, sum) h
-
--- steps of b are steps of b % m, where the arc ends before the round does
-pub reduced : {b m l w i y : ℕ} → l + w < m → Hit b m l w i y → (z : ℕ) × Hit (b % m) m l w i z
-reduced {b} {m} {l} {w} {i} {y} room h = through (b / m) (b % m) (div-add-mod b m)
-  where
-    through : (q r : ℕ) → m * q + r ≡ b → (z : ℕ) × Hit r m l w i z
-    through q r e = elim (dec_le (q * i) y) [
-      | yes k ↦ rounded (le_dest k)
-      | no k ↦ absurd (early (mul-le-mul_left m (lt_of_not-le k)))
-    ]
-      where
-        h' : Hit (m * q + r) m l w i y
-        h' = rw e h
-
-        rounded : (z : ℕ) × (q * i + z ≡ y) → (z : ℕ) × Hit r m l w i z
-        rounded (z, sum) =
-            let k : Hit (m * q + r) m l w i (q * i + z) = rw sum h' in
-            (z, record { from = omega (arith, k.from); to = omega (arith, k.to) })
-
-        early : m * suc y ≤ m * (q * i) → ⊥
-        early k = omega (arith, h'.to)
 
 -- how far the arc's end stands past a multiple of b
 unfoldable past : (b l w : ℕ) → ℕ

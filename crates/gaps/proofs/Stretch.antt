@@ -6,10 +6,10 @@ use Prim.Native.Nat.{ℕ, suc, ◌+◌, ◌-◌, ◌*◌, ◌/◌, ◌%◌, ◌�
 use native.Mathlib.Nat.{le_dest, le_of_lt, lt_of_not-le, mul-le-mul_left, mul-le-mul_right, mul-add, div-add-mod, div-mul-le_self, lt-div-mul-add}
 use native.Mathlib.Decide.{dec_le}
 use native.Mathlib.Omega.{arith}
-use lib.Dec.{T, ltb, ltb→lt}
+use lib.Dec.{T, leb, leb→le}
 use Rattle.exact.specs.Power.{AtMost, AtLeast}
 use Rattle.exact.proofs.Power.{least_of_more}
-use Rattle.gaps.proofs.Steps.{Hit, free, free_sound, reduced}
+use Rattle.gaps.proofs.Steps.{free, free_sound}
 use Rattle.gaps.proofs.Line.{LineBelow, LineAbove, line_below, line_above}
 
 -- 2 ^ (p / Q) is no nearer to v / O than g / O
@@ -32,7 +32,7 @@ module _ (O M τ g E C : ℕ) where
   -- the test of a stretch of N + 1 powers from A on, by its numbers
   unfoldable pub ok : ℕ → ℕ → ℕ → ℕ → ℕ → Bool
   unfolding free
-  ok N d k w A = let l = (k - A) % M in elim (ltb (l + w) M) [ true ↦ free 40 N (A * d / O % M) M l w | false ↦ false ]
+  ok N d k w A = let l = (k - A) % M in elim (leb (l + w) M) [ true ↦ free 40 N (A * d / O) M l w | false ↦ false ]
 
   -- the numbers of a stretch
   pub record Numbers (c N d lo u hi k w : ℕ) : Type 0 where
@@ -83,18 +83,11 @@ module _ (O M τ g E C : ℕ) where
         c' : ℕ
         c' = c + 2
 
-        l : ℕ
-        l = (k - A) % M
-
         wider : AtLeast (A + E) O p 0 Q
         wider = least_of_more opos (mul-le-mul_right O (omega arith)) near.least
 
         missed : A + j * b < τ + M * z + g + lo → τ + M * z < A + j * b + hi + g → ⊥
         missed above below =
-            let (test, clear) = then_both (ltb (l + w) M) (free 40 N (b % M) M l w) t in
-            let room = ltb→lt (l + w) M test in
-            let (x, from, to) =
-            hit A (j * b) l ((k - A) / M) z low (div-add-mod (k - A) M) (le_of_lt room) above below in
-            let there : Hit b M l w j x = record { from = omega arith; to = omega arith } in
-            let (x', h) = reduced room there in
-            free_sound 40 N (b % M) M l w clear mpos j x' less h
+            let (room, clear) = then_both (leb ((k - A) % M + w) M) (free 40 N b M ((k - A) % M) w) t in
+            let (x, from, to) = hit A (j * b) ((k - A) % M) ((k - A) / M) z low (div-add-mod (k - A) M) (leb→le ((k - A) % M + w) M room) above below in
+            free_sound 40 N b M ((k - A) % M) w clear mpos j x less (record { from = omega arith; to = omega arith })
