@@ -1,6 +1,5 @@
 # make         proves and builds build/libearmath.a and the program build/earmath, then compiles and runs the example
 # make test    the gate, .ci/run: all proofs, and the tests of the archive from C
-# make test-from-nothing   `rt ci`: the proofs again and every edit from nothing, once before a release
 # make every   all 2^32 patterns through each function of one argument, ONLY=ear_exp2 for one of
 #              them, and all floats of three channels through each loudness map (some minutes)
 # make others  all 2^32 patterns through newlib's and glibc's functions, judged as ours are (some minutes)
@@ -24,9 +23,9 @@ HELPERS = $(filter-out $(TESTS) $(SWEEPS),$(basename $(notdir $(wildcard $(FOLDE
 HEADERS = include/earmath.h $(wildcard $(FOLDERS:%=%/*.h))
 TEST_FLAGS = -std=c11 -D_POSIX_C_SOURCE=200809L $(CFLAGS) -pthread -Iinclude $(FOLDERS:%=-I%)
 vpath %.c $(FOLDERS)
-CRATES = crates.txt $(shell find crates -type f)
+CRATES = crates.txt $(shell find crates -type f -not -path '*/out/*')
 
-.PHONY: all test test-from-nothing tests every others errors hear report bench filter times clean tools-for-make mpfr
+.PHONY: all test tests every others errors hear report bench filter times clean tools-for-make mpfr
 .DELETE_ON_ERROR:
 
 all: build/roots build/growth.svg build/filter build/electrodogram build/earmath
@@ -40,9 +39,6 @@ all: build/roots build/growth.svg build/filter build/electrodogram build/earmath
 
 test:
 	@.ci/run
-
-test-from-nothing: tools-for-make
-	rt ci
 
 tests: $(TESTS:%=build/tests/%)
 
@@ -87,7 +83,7 @@ times: tools-for-make
 	@tools/times
 
 clean:
-	rm -rf build target examples/chip/build
+	rm -rf build crates/*/out examples/chip/build
 
 # `error` says it in one line, where a recipe that fails would add one of make's own.
 need = $(eval missing := $(shell tools/need $(1) 2>&1))$(if $(missing),$(error $(missing)))
@@ -98,17 +94,15 @@ tools-for-make:
 mpfr:
 	@$(call need,$(CC) mpfr)
 
-# `rt check` proves two crates at a time, `rt staticlib` would prove what is left one after the other.
 $(LIBRARY): $(CRATES) | tools-for-make
-	rt check earmath
-	rt staticlib earmath
+	rt lib earmath_c
 	@mkdir -p build
-	cp target/staticlib/libearmath.a $@
+	cp crates/earmath_c/out/libearmath_c.a $@
 
 build/earmath: $(CRATES) | tools-for-make
-	rt check ear
+	rt run ear </dev/null
 	@mkdir -p build
-	cp target/bin/ear $@
+	cp crates/ear/out/ear $@
 
 # The examples are plain C99, as the header is.
 build/roots build/growth build/filter build/electrodogram: build/%: examples/%.c include/earmath.h $(LIBRARY)

@@ -20,7 +20,7 @@ TARGET_cortex-m33 = --target=thumbv8m.main-none-eabihf -mcpu=cortex-m33 -mfloat-
 TARGET_riscv32imafc = --target=riscv32-none-elf -march=rv32imafc -mabi=ilp32f
 
 # the compiler is the one that `rt` itself uses
-KIT_TOOLS = $(dir $(patsubst %/,%,$(dir $(shell rt doc))))on/$(shell uname -m)/toolchain/bin
+KIT_TOOLS = $(dir $(shell rt doc))toolchain/bin
 
 .PHONY: chip chip-compiler chip-tests chip-every chip-bench tools-for-chip
 

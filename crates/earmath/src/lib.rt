@@ -121,15 +121,7 @@ pub fn ear_softmax2_in_place(p: &mut [u32]) -> u32
 }
 
 // The loudness map of a stimulator with the steps 0 to top, at most 1,023: a step within 0.500004 of the exact map, 0.500001 where top is at most 255.
-pub fn ear_loudness_top(
-    top: u32,
-    b: f32,
-    m: f32,
-    t: u32,
-    c: u32,
-    a: f32,
-    out: &mut u32,
-) -> u32
+pub fn ear_loudness_top(top: u32, b: f32, m: f32, t: u32, c: u32, a: f32, out: &mut u32) -> u32
     ensures { Ends itself (Loudness top b m t c a) result out.old out.new }
 {
     loudness::loudness_top(top, b, m, t, c, a, out)
@@ -190,13 +182,7 @@ pub fn ear_transform128(x: &[f32], re: &mut [u32], im: &mut [u32]) -> u32
 }
 
 // The currents of up to 65 bands of a windowed frame, each within 0.504 of a step of the exact path's, or code 2, 4 or 1 and nothing written.
-pub fn ear_currents(
-    top: u32,
-    x: &[f32],
-    w: &[f32],
-    bands: &[u32],
-    out: &mut [u32],
-) -> u32
+pub fn ear_currents(top: u32, x: &[f32], w: &[f32], bands: &[u32], out: &mut [u32]) -> u32
     ensures { Ends as_they_are (Currents top x.now w.now bands.now (length out.old)) result out.old out.new }
 {
     path::currents(top, x, w, bands, out)

@@ -2,7 +2,7 @@
 -- The addition theorem with all weights 1 gives e ^ s e ^ t = e ^ (s + t) by partial sums, and that every whole power. Assumes nothing.
 use mathlib.Core.Path.{◌≡◌, sym, ap, ◌∙◌}
 use Prim.Native.Nat.{ℕ, zero, suc, ◌+◌, ◌*◌, ◌^◌, ◌≤◌, ◌<◌, max}
-use native.Mathlib.Nat.{le_refl, le_trans, le_of_eq, zero-mul, mul-one, one-mul, mul_comm, pow-zero, pow-suc, mul-le-mul, mul-le-mul_left, mul-le-mul_right, le_of_mul-le-mul_right, one-le-mul, one-le-pow, pow-le-pow_left, le-max_left, le-max_right}
+use native.Mathlib.Nat.{le_refl, le_trans, le_of_eq, zero-mul, mul-one, one-mul, mul_comm, pow-zero, pow-suc, mul-le-mul, mul-le-mul_right, le_of_mul-le-mul_right, one-le-mul, one-le-pow, pow-le-pow_left, le-max_left, le-max_right}
 use native.Mathlib.Omega.{arith}
 use Rattle.exact.specs.Series.{partial, denominator}
 use Rattle.exact.specs.Power.{AtMost, AtLeast}

@@ -1,7 +1,6 @@
 -- `LessThan` and `MoreThan` by what they exclude: so their laws in the exponent, and of the reciprocal, are those of `AtMost` and `AtLeast`. Assumes nothing.
 use Prim.Native.Nat.{ℕ, ◌+◌, ◌*◌, ◌^◌, ◌≤◌, ◌<◌}
 use native.Mathlib.Nat.{mul_comm, le_trans, le_of_eq, add-mul, mul-le-mul_right, not-le_of_lt, lt_of_not-le}
-use native.Mathlib.Omega.{arith}
 use mathlib.Core.Path.{sym}
 use Rattle.exact.specs.Power.{AtMost, AtLeast, LessThan, MoreThan}
 use Rattle.exact.proofs.Power.{least_pos, most_of_less, most_of_larger, least_of_smaller}

@@ -1,7 +1,7 @@
 -- Ratios of logarithms without logarithms: log (a / b) / log (m / b) compared with the fraction j / k is (a / b) ^ k compared with (m / b) ^ j.
 -- Bounds on the logarithms of a, b and m decide it.
 use mathlib.Core.Path.{◌≡◌}
-use Prim.Native.Nat.{ℕ, ◌+◌, ◌*◌, ◌^◌, ◌≤◌, ◌<◌}
+use Prim.Native.Nat.{ℕ, ◌+◌, ◌*◌, ◌^◌, ◌≤◌}
 use native.Mathlib.Nat.{le_of_eq, not-le_of_lt, lt_of_not-le, mul-pos, mul-le-mul_right, le_of_mul-le-mul_right, one-le-pow}
 use native.Mathlib.Decide.{dec_le}
 use native.Mathlib.Omega.{arith}

@@ -1,10 +1,10 @@
 -- Laws of `LessThan` and `MoreThan`, from those of `AtMost` and `AtLeast`. Assumes nothing.
 use Prim.Native.Nat.{ℕ, zero, suc, ◌*◌, ◌^◌, ◌≤◌, ◌<◌}
-use native.Mathlib.Nat.{mul_comm, mul-le-mul_right, mul-lt-mul_of_pos_right, lt_of_mul-lt-mul_right, lt_of_lt_of_le, lt_of_le_of_lt, le_of_lt, not-le_of_lt, lt_of_not-le, pow-le-pow_left, pow-lt-pow_left, one-le-mul, ne_of_gt, zero-mul}
+use native.Mathlib.Nat.{mul_comm, mul-le-mul_right, mul-lt-mul_of_pos_right, lt_of_mul-lt-mul_right, lt_of_lt_of_le, lt_of_le_of_lt, le_of_lt, not-le_of_lt, pow-le-pow_left, pow-lt-pow_left, ne_of_gt, zero-mul}
 use native.Mathlib.Omega.{arith}
 use lib.Pow.{pow_pos}
 use Rattle.exact.specs.Power.{AtMost, AtLeast, LessThan, MoreThan}
-use Rattle.exact.proofs.Power.{mul-pow, least_pos, at_most}
+use Rattle.exact.proofs.Power.{mul-pow, at_most}
 
 -- a fraction n' / d' < n / d is less than what n / d is at most
 pub less_of_less : {n d n' d' p m q : ℕ} → 0 < d' → n' * d < n * d' → AtMost n d p m q → LessThan n' d' p m q

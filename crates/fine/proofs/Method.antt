@@ -1,12 +1,11 @@
 -- Method: Horner's rule on the power series of 2 ^ t, in units of 2 ^ -64, is never above 2 ^ t and below it by 42 of them at most: 17 floors, and 25 for what the coefficients lack.
 -- The unit U and the exponents' unit stay variables wherever they are computed with. Assumes nothing.
-use mathlib.Core.Path.{◌≡◌, refl}
+use mathlib.Core.Path.{refl}
 use mathlib.Core.List.{List, [], ◌∷◌}
 use Prim.Native.Nat.{ℕ, ◌+◌, ◌*◌, ◌^◌, ◌≤◌, ◌<◌, suc-le-suc}
 use native.Mathlib.Nat.{le_trans, le_of_lt, mul-le-mul, mul-le-mul_left, mul-le-mul_right}
 use native.Mathlib.Omega.{arith}
 use lib.Dec.{lit<, lit≤}
-use lib.ListN.{length}
 use Rattle.exact.specs.Power.{AtMost, AtLeast}
 use Rattle.exact.specs.Polynomial.{value}
 use Rattle.exact.proofs.Power.{least_of_more, most_of_less}

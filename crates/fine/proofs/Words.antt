@@ -1,5 +1,5 @@
 -- Words: products of two numbers of 64 digits out of products of 32. Assumes nothing.
-use mathlib.Core.Path.{◌≡◌, ap}
+use mathlib.Core.Path.{◌≡◌}
 use Prim.Native.Nat.{ℕ, ◌+◌, ◌*◌, ◌/◌, ◌%◌, ◌^◌, ◌≤◌, ◌<◌}
 use native.Mathlib.Nat.{mul-le-mul, mul-le-mul_left}
 use native.Mathlib.Omega.{arith}

@@ -1,8 +1,8 @@
 -- Two chains of Horner's rule that meet in one floor, against the exact polynomial: never more, less by one unit, by what the square's floor costs and by the chains' floors
 -- in proportion to the argument; never falling. For any coefficients and any unit D. Assumes nothing.
-use mathlib.Core.Path.{◌≡◌, refl, sym, ap, ◌∙◌}
+use mathlib.Core.Path.{◌≡◌, refl, sym, ap}
 use mathlib.Core.List.{List, [], ◌∷◌}
-use Prim.Native.Nat.{ℕ, zero, suc, pred, ◌+◌, ◌*◌, ◌/◌, ◌^◌, ◌≤◌, ◌<◌}
+use Prim.Native.Nat.{ℕ, zero, suc, ◌+◌, ◌*◌, ◌/◌, ◌^◌, ◌≤◌, ◌<◌}
 use native.Mathlib.Nat.{le_refl, le_trans, le_of_eq, le_of_lt, le_of_suc-le-suc, zero-mul, mul-zero, zero-div, pow-zero, pow-suc, mul_assoc, mul-le-mul, mul-le-mul_left, mul-le-mul_right, le_of_mul-le-mul_right, div-mul-le_self, lt-div-mul-add}
 use native.Mathlib.Omega.{arith}
 use lib.ListN.{length}

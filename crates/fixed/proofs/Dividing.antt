@@ -1,6 +1,6 @@
 -- Long division by digits of 16 bits: one digit from the first half of the divisor, and two digits put together. Assumes nothing.
 use mathlib.Core.Path.{◌≡◌, sym}
-use Prim.Native.Nat.{ℕ, ◌+◌, ◌-◌, ◌*◌, ◌/◌, ◌%◌, ◌^◌, ◌≤◌, ◌<◌}
+use Prim.Native.Nat.{ℕ, ◌+◌, ◌*◌, ◌/◌, ◌%◌, ◌^◌, ◌≤◌, ◌<◌}
 use native.Mathlib.Nat.{le_of_lt, lt_of_le_of_lt, mod-eq_of_lt, mul-lt-mul_of_pos_right, mul-le-mul_left, le_of_mul-le-mul_right, lt_of_mul-lt-mul_right, div-mul-le_self, lt-div-mul-add, div-eq_of_lt-le}
 use native.Mathlib.Omega.{arith}
 use lib.Count.{count_leading_zeros}

@@ -3,7 +3,7 @@
 use mathlib.Core.Path.{◌≡◌, ap, ◌∙◌}
 use mathlib.Core.List.{List, [], ◌∷◌}
 use Prim.Native.Nat.{ℕ, zero, suc, ◌+◌, ◌*◌, ◌/◌, ◌^◌, ◌≤◌, ◌<◌}
-use native.Mathlib.Nat.{le_refl, le_trans, le_of_lt, zero-mul, zero-div, mul-zero, pow-zero, pow-suc, le_of_suc-le-suc, mul-le-mul, mul-le-mul_left, mul-le-mul_right, div-mul-le_self, lt-div-mul-add, le-div_iff_mul-le}
+use native.Mathlib.Nat.{le_refl, le_trans, le_of_lt, zero-mul, zero-div, pow-zero, pow-suc, le_of_suc-le-suc, mul-le-mul, mul-le-mul_left, mul-le-mul_right, div-mul-le_self, lt-div-mul-add, le-div_iff_mul-le}
 use native.Mathlib.Omega.{arith}
 use lib.ListN.{length}
 use Rattle.exact.specs.Polynomial.{value}

@@ -1,7 +1,6 @@
 -- The two ways in which a call ends, and the two answers of a function of one float. Assumes nothing.
 use mathlib.Core.Path.{◌≡◌, refl}
-use Prim.Native.Nat.{ℕ, suc}
-use native.Mathlib.Omega.{arith}
+use Prim.Native.Nat.{ℕ}
 use lib.Ieee.{Float}
 use Rattle.units.specs.Units.{Number}
 use Rattle.units.specs.Answers.{Ends, Answers}

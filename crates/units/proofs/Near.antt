@@ -1,7 +1,7 @@
 -- How far two numbers are apart, said without subtracting: bounds add up, and a factor can be multiplied in.
 -- `omega arith` shows most of these by itself, but not beside a number of more than 38 digits, such as 2 ^ 149: hence the names.
-use Prim.Native.Nat.{ℕ, ◌+◌, ◌*◌, ◌≤◌, ◌<◌}
-use native.Mathlib.Nat.{mul-le-mul_right, le_of_mul-le-mul_right}
+use Prim.Native.Nat.{ℕ, ◌+◌, ◌*◌, ◌≤◌}
+use native.Mathlib.Nat.{mul-le-mul_right}
 use native.Mathlib.Omega.{arith}
 
 -- a and b are at most d apart

@@ -1,5 +1,5 @@
 -- Rounding seen from outside: with the exponent given, times a power of two, and that no number of 24 digits is nearer.
-use mathlib.Core.Path.{◌≡◌, refl, sym, ap, ◌∙◌}
+use mathlib.Core.Path.{◌≡◌, sym, ap, ◌∙◌}
 use mathlib.Core.Logic.{◌⊎◌, inl, inr}
 use Prim.Native.Nat.{ℕ, suc, ◌+◌, ◌-◌, ◌*◌, ◌/◌, ◌%◌, ◌^◌, ◌≤◌, ◌<◌, zero-le, compare}
 use native.Mathlib.Nat.{le_trans, le_of_lt, sub-eq-zero_of_le, le_of_eq, le_antisymm, lt_of_lt_of_le, lt_of_le_of_lt, lt_of_not-le, not-le_of_lt, eq-or-lt_of_le, eq-zero-or-pos, mul_assoc, mul-pos, mul-le-mul_right, le-div_iff_mul-le, div-lt_iff_lt-mul, div-mul-le_self, lt-div-mul-add}
@@ -7,18 +7,18 @@ use native.Mathlib.Omega.{arith}
 use mathlib.Core.Bool.{Bool, true, false, not, cond}
 use lib.Dec.{T}
 use lib.Pow.{pow-add, pow_pos, pow_mono}
-use lib.Ieee.{Float, binary32, size, nearest}
+use lib.Ieee.{Float, size, nearest}
 use lib.Ieee.Digits.{size-lt, size-le, back}
 use lib.Ieee.Fits.{nearest-le}
 use lib.Ieee.Nearest.{closest, nearest-ge}
 use lib.Ieee.Order.{drop}
-use lib.Ieee.Scale.{finite, grid, grid_scale, normal_of_fraction}
+use lib.Ieee.Scale.{finite}
 use Rattle.units.specs.Units.{mag, negative, P, N, Number}
 use Rattle.units.proofs.Naturals.{le-or-lt}
 use Rattle.units.proofs.Near.{Near, near_sym}
 use Rattle.units.proofs.Size.{mag-digits}
 use Rattle.units.proofs.Result.{Rounds, rounds_plus, rounds_minus}
-use Rattle.units.proofs.Round.{rnd, rnd_half, rnd_same, rnd_zero, reaches, step}
+use Rattle.units.proofs.Round.{rnd, rnd_half, rnd_zero, reaches, step}
 
 regroup : (a b c : ℕ) → a * (b * c) ≡ a * c * b
 regroup a b c = omega arith

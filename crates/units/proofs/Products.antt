@@ -1,7 +1,7 @@
 -- Products of f32. The exact product is a whole number of units of 2 ^ -298, so below the normal range digits are lost: the standard model has half a unit of 2 ^ -149 besides.
 use mathlib.Core.Path.{◌≡◌, sym, ap₂, ◌∙◌}
-use Prim.Native.Nat.{ℕ, ◌+◌, ◌*◌, ◌^◌, ◌≤◌}
-use native.Mathlib.Nat.{mul_assoc, mul-pos, mul-le-mul_right, mul-mul-mul_comm}
+use Prim.Native.Nat.{ℕ, ◌+◌, ◌*◌, ◌^◌}
+use native.Mathlib.Nat.{mul_assoc, mul-pos, mul-mul-mul_comm}
 use native.Mathlib.Omega.{arith}
 use mathlib.Core.Bool.{Bool, true, false, cond}
 use lib.Dec.{T, eqb}
@@ -9,7 +9,7 @@ use lib.Pow.{pow_pos}
 use lib.Ieee.{Float, nan, inf, fin, unlike, up, down, binary32, mul}
 use lib.Ieee.Fits.{down_pos}
 use lib.Ieee.Scale.{finite}
-use Rattle.units.specs.Units.{mag, negative, P, N, Number, Le}
+use Rattle.units.specs.Units.{mag, negative, P, N, Number}
 use Rattle.units.proofs.Near.{Near}
 use Rattle.units.proofs.Size.{mag_exact}
 use Rattle.units.proofs.Result.{Rounds, rounds_of, rounds_near}

@@ -4,7 +4,7 @@ use mathlib.Core.Logic.{inl, inr}
 use Prim.Native.Nat.{ℕ, ◌+◌, ◌*◌, ◌^◌, ◌≤◌}
 use native.Mathlib.Nat.{le_of_eq, lt_of_lt_of_le, not-le_of_lt}
 use native.Mathlib.Omega.{arith}
-use mathlib.Core.Bool.{Bool, true, false, ◌||◌, true≢false, cond}
+use mathlib.Core.Bool.{Bool, true, false, true≢false, cond}
 use lib.Dec.{T}
 use lib.Pow.{pow-add}
 use lib.Ieee.{Float, nan, inf, fin, binary32, of_bits, lt, eq, le}

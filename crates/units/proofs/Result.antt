@@ -1,20 +1,20 @@
 -- What the result of an f32 operation is: the exact number, (a - b) / c units, rounded. Each operation shows that it is (Sums, Products, Quotients).
 -- What follows from it is shown here, once for all of them and for both signs.
 use mathlib.Core.Path.{◌≡◌, sym, ap, ◌∙◌}
-use mathlib.Core.Logic.{◌↔◌, inl, inr}
+use mathlib.Core.Logic.{inl, inr}
 use Prim.Native.Nat.{ℕ, ◌+◌, ◌-◌, ◌*◌, ◌^◌, ◌≤◌, ◌<◌, zero-le}
-use native.Mathlib.Nat.{le_of_eq, le_antisymm, le_of_lt, lt_of_le_of_lt, zero-mul, mul-one, add-zero, add-le-add, zero-sub, sub-zero, sub-eq-zero_of_le, min-eq_left, min-le_left}
+use native.Mathlib.Nat.{le_of_eq, le_antisymm, le_of_lt, lt_of_le_of_lt, zero-mul, mul-one, add-zero, zero-sub, sub-zero, sub-eq-zero_of_le, min-eq_left, min-le_left}
 use native.Mathlib.Omega.{arith}
 use mathlib.Core.Bool.{Bool, true, false, not, cond}
 use lib.Dec.{T, lit<}
 use lib.Ieee.{Float, binary32, round, fits, is_nan}
 use lib.Ieee.Scale.{finite}
 use lib.Ieee.Fits.{round-fits}
-use Rattle.units.specs.Units.{mag, negative, P, N, Number, Le}
+use Rattle.units.specs.Units.{mag, negative, P, N, Number}
 use Rattle.units.proofs.Naturals.{le-or-lt, sub-mul}
 use Rattle.units.proofs.Near.{Near, near_sym}
 use Rattle.units.proofs.Size.{mag-digits, mag-lt, finite_of_mag, finite-real}
-use Rattle.units.proofs.Round.{rnd, rnd_stays, rnd_upto, rnd_mono, rnd_near, rnd_whole, rnd_same, rnd_zero}
+use Rattle.units.proofs.Round.{rnd, rnd_stays, rnd_upto, rnd_near, rnd_whole, rnd_same, rnd_zero}
 use Rattle.units.proofs.Rounded.{cap, cap_under, round_P, round_N, round_real}
 
 -- z is (a - b) / c units rounded, an infinity where that is too large, and no NaN: at most one of the two differences is above 0

@@ -1,14 +1,14 @@
 -- Sums and differences of f32: the exact sum is a whole number of units, so the standard model has no underflow term.
 use mathlib.Core.Path.{◌≡◌, refl, sym, ap, ap₂, ◌∙◌}
-use Prim.Native.Nat.{ℕ, ◌+◌, ◌-◌, ◌*◌, ◌/◌, ◌^◌, ◌≤◌, ◌<◌}
+use Prim.Native.Nat.{ℕ, ◌+◌, ◌-◌, ◌*◌, ◌^◌, ◌≤◌, ◌<◌}
 use native.Mathlib.Nat.{le_trans, le_of_eq, le_of_lt, mul-one, mul_comm, mul_assoc, mul_right_comm, mul-pos, mul-le-mul_right, le_of_mul-le-mul_right}
 use native.Mathlib.Omega.{arith}
 use mathlib.Core.Bool.{Bool, true, false, not, beq, cond}
 use lib.Dec.{T, ltb, ltb→lt, nltb→le, lit<}
-use lib.Ieee.{Float, nan, inf, fin, up, down, binary32, round, sum, add, sub, neg}
-use lib.Ieee.Fits.{down_pos, neg-fits}
+use lib.Ieee.{Float, nan, inf, fin, up, down, binary32, round, sum, add}
+use lib.Ieee.Fits.{down_pos}
 use lib.Ieee.Scale.{finite}
-use Rattle.units.specs.Units.{mag, negative, P, N, Number, Le}
+use Rattle.units.specs.Units.{mag, negative, P, N, Number}
 use Rattle.units.proofs.Naturals.{sub-mul}
 use Rattle.units.proofs.Near.{Near}
 use Rattle.units.proofs.Size.{mag_exact}

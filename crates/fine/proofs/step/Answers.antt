@@ -1,5 +1,4 @@
 -- `fine::step` meets its contract: a fraction of p is at most p. Assumes nothing.
-use borrow.Author.Rules.{rules}
 use native.Mathlib.Omega.{arith}
 use Rattle.fine.proofs.Words.{fraction}
 use Rattle.fine.proofs.step.Goals as goal

@@ -1,6 +1,6 @@
 -- `fine::upper` meets its contract: the four products of words, with their carries. Assumes nothing.
 use native.Mathlib.Omega.{arith}
-use Prim.Native.Nat.{ℕ, ◌*◌, ◌/◌, ◌%◌, ◌≤◌}
+use Prim.Native.Nat.{◌*◌, ◌/◌, ◌%◌, ◌≤◌}
 use Rattle.fine.proofs.Words.{words, product}
 use Rattle.fine.proofs.upper.Goals.{Start}
 use Rattle.fine.proofs.upper.Goals as goal

@@ -1,5 +1,4 @@
 -- `fixed::apart` meets its contract: each branch is a law of `Take`. Assumes nothing.
-use borrow.Author.Rules.{rules}
 use native.Mathlib.Omega.{arith}
 use Rattle.fixed.proofs.Take.{no_nan, leading_low, shift_low, apart_low, apart-high}
 use Rattle.fixed.proofs.apart.Goals as goal

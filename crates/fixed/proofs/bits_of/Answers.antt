@@ -1,5 +1,4 @@
 -- `fixed::bits_of` gives the pattern: a float that differs from itself is a NaN, and any other has bits to read. Assumes nothing.
-use borrow.Author.Rules.{rules}
 use mathlib.Core.Path.{sym, ap, subst}
 use lib.Dec.{T}
 use lib.Ieee.{binary32, to_bits}

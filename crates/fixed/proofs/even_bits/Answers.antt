@@ -1,5 +1,4 @@
 -- `fixed::even_bits` meets its contract: the shift leaves the 63 digits whole. Assumes nothing.
-use borrow.Author.Rules.{rules}
 use mathlib.Core.Path.{refl, sym}
 use Prim.Native.Nat.{◌-◌, ◌*◌, ◌^◌, ◌≤◌, ◌<◌, zero-le}
 use native.Mathlib.Nat.{mod-eq_of_lt, lt_of_not-le, lt_of_lt_of_le, le_antisymm}

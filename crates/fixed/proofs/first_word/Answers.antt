@@ -1,8 +1,7 @@
 -- `fixed::first_word` meets its contract: the leading zeros are those of the upper word, where that is not zero. Assumes nothing.
-use borrow.Author.Rules.{rules}
-use mathlib.Core.Path.{◌≡◌, refl, sym, ap, ◌∙◌}
+use mathlib.Core.Path.{◌≡◌, refl, ap, ◌∙◌}
 use Prim.Native.Nat.{ℕ, ◌+◌, ◌*◌, ◌/◌, ◌%◌, ◌^◌, ◌≤◌, ◌<◌}
-use native.Mathlib.Nat.{mod-eq_of_lt, lt_of_not-le}
+use native.Mathlib.Nat.{mod-eq_of_lt}
 use native.Mathlib.Omega.{arith}
 use lib.Pow.{pow-add}
 use lib.Count.{count_leading_zeros}

@@ -1,6 +1,5 @@
 -- `fixed::nearest_bits` meets its contract: the leading zeros are those of the upper word, where that is not zero, and the shift leaves the 64 digits whole. Assumes nothing.
-use borrow.Author.Rules.{rules}
-use mathlib.Core.Path.{◌≡◌, refl, sym, ◌∙◌}
+use mathlib.Core.Path.{◌≡◌, sym, ◌∙◌}
 use Prim.Native.Nat.{ℕ, ◌+◌, ◌-◌, ◌*◌, ◌/◌, ◌%◌, ◌^◌, ◌≤◌, ◌<◌, zero-le}
 use native.Mathlib.Nat.{mod-eq_of_lt, lt_of_not-le, le_antisymm}
 use native.Mathlib.Omega.{arith}

@@ -1,5 +1,4 @@
 -- `fixed::division::digit` meets its contract: the digit tried lacks 2 at most. Assumes nothing.
-use borrow.Author.Rules.{rules}
 use Prim.Native.Nat.{◌+◌, ◌/◌}
 use native.Mathlib.Omega.{arith}
 use Rattle.fixed.proofs.Dividing.{Tried, tried, is_digit}

@@ -1,5 +1,4 @@
 -- `fixed::division::quotient_of_next` meets its contract: 2 ^ 32 divides by a shift. Assumes nothing.
-use borrow.Author.Rules.{rules}
 use mathlib.Core.Path.{◌≡◌, ap}
 use Prim.Native.Nat.{ℕ, ◌+◌, ◌/◌}
 use native.Mathlib.Omega.{arith}
