@@ -95,12 +95,12 @@ mpfr:
 	@$(call need,$(CC) mpfr)
 
 $(LIBRARY): $(CRATES) | tools-for-make
-	rt lib earmath_c
+	cd crates/earmath_c && rt lib
 	@mkdir -p build
 	cp crates/earmath_c/out/libearmath_c.a $@
 
 build/earmath: $(CRATES) | tools-for-make
-	rt run ear </dev/null
+	cd crates/ear && rt run </dev/null
 	@mkdir -p build
 	cp crates/ear/out/ear $@
 
