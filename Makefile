@@ -89,15 +89,21 @@ clean:
 need = $(eval missing := $(shell tools/need $(1) 2>&1))$(if $(missing),$(error $(missing)))
 
 tools-for-make:
-	@$(call need,x86-64 rt $(CC) ar objdump)
+	@$(call need,x86-64 rt $(CC) ar ld objcopy objdump)
 
 mpfr:
 	@$(call need,$(CC) mpfr)
 
-$(LIBRARY): $(CRATES) | tools-for-make
-	cd crates/earmath_c && rt lib
-	@mkdir -p build
-	cp crates/earmath_c/out/libearmath_c.a $@
+# What clears a list joins the archive's one object under a name of its own.
+$(LIBRARY): $(CRATES) chip/clear.c | tools-for-make
+	cd crates/earmath_c && rt lib --cpu=x86-64
+	@mkdir -p build/archive
+	cd build/archive && ar x ../../crates/earmath_c/out/libearmath_c.a earmath_c.o
+	$(CC) -O2 -Wall -Wextra -ffreestanding -fno-strict-aliasing -fPIC -ffunction-sections -c chip/clear.c -o build/archive/clear.o
+	ld -r build/archive/earmath_c.o build/archive/clear.o -o build/archive/earmath.o
+	objcopy --localize-symbol=memset build/archive/earmath.o
+	rm -f $@
+	ar rcsD $@ build/archive/earmath.o
 
 build/earmath: $(CRATES) | tools-for-make
 	cd crates/ear && rt run </dev/null

@@ -32,12 +32,13 @@ chip-compiler:
 build/chip/module.ll: chip/module $(LIBRARY)
 	chip/module $@
 
-build/%/libearmath.a: build/chip/module.ll
+build/%/libearmath.a: build/chip/module.ll chip/clear.c
 	@mkdir -p $(@D)
 	$(KIT_TOOLS)/clang $(or $(TARGET_$*),$(error no target $* in chip/rules.mk)) $(OPTIMIZE) -ffunction-sections -fdata-sections \
 		-fstack-usage -Wno-override-module -c -x ir $< -o $(@D)/earmath.o
+	$(KIT_TOOLS)/clang $(TARGET_$*) -O2 -ffreestanding -ffunction-sections -fstack-usage -c chip/clear.c -o $(@D)/clear.o
 	rm -f $@
-	$(KIT_TOOLS)/llvm-ar rcsD $@ $(@D)/earmath.o
+	$(KIT_TOOLS)/llvm-ar rcsD $@ $(@D)/earmath.o $(@D)/clear.o
 
 # Programs for the emulated chip are linked as the example in examples/chip is.
 CHIP_CC = arm-none-eabi-gcc -mcpu=cortex-m4 -mthumb -mfloat-abi=hard -mfpu=fpv4-sp-d16
