@@ -6,7 +6,7 @@ use Rattle.units.proofs.Naturals.{le-or-lt}
 use Rattle.exact.specs.Series.{LimitNear}
 use Rattle.exact.specs.Circle.{Sine, Cosine, signed, bound}
 use Rattle.exact.proofs.Approximation.{near_finer, near_instead}
-use Rattle.exact.proofs.Limits.{near_wider, Both, cosine_of_lem, sine-plus, sine-minus}
+use Rattle.exact.proofs.Limits.{near_wider, Both, cosine_of_lem, sine_plus, sine_minus}
 use Rattle.fixed.proofs.Rounding.{units_of, zero_units}
 use Rattle.circle.specs.Wave.{size_of, wave_bits, wave}
 use Rattle.circle.proofs.Method.{D}
@@ -77,8 +77,8 @@ module _ (t : ℕ) (few : t < 2 ^ 64) where
 -- the sine: the float at its phase, or half a turn on
 pub sine_joined : {p q C C' U a b : ℕ} (s : Bool) (t : ℕ) → t < 2 ^ 64 → Both p q C C' (P (wave t)) (N (wave t)) U a b → (r : Float) →
     r ≡ wave ((t + cond s 1 0 * 2 ^ 63) % 2 ^ 64) → Sine (signed (cond s 0 p) (cond s p 0) q) (signed (P r) (N r) U) (bound a b)
-sine_joined true t few h r e = let (i, j) = turned_float t few in rw (e, i, j) (sine-minus h)
-sine_joined false t few h r e = let same : (t + 0) % 2 ^ 64 ≡ t = omega arith in rw (e, same) (sine-plus h)
+sine_joined true t few h r e = let (i, j) = turned_float t few in rw (e, i, j) (sine_minus h)
+sine_joined false t few h r e = let same : (t + 0) % 2 ^ 64 ≡ t = omega arith in rw (e, same) (sine_plus h)
 
 -- the cosine, whatever the sign
 pub cosine_joined : {p q S S' U a b : ℕ} (s : Bool) (t : ℕ) → Both p q (P (wave t)) (N (wave t)) S S' U a b → (r : Float) → r ≡ wave t →

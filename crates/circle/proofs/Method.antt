@@ -5,10 +5,10 @@ use Rattle.exact.specs.Series.{partial, denominator, fourth, LimitNear}
 use Rattle.exact.specs.Circle.{quarter, quarter_unit}
 use Rattle.exact.proofs.Polynomial.{odd, spread}
 use Rattle.exact.proofs.Forms.{add, value-add, length-add}
-use Rattle.exact.proofs.Pieces.{each, below, below-sound, knots, end}
+use Rattle.exact.proofs.Pieces.{each, below, below_sound, knots, end}
 use Rattle.exact.proofs.Mirror.{mirror, value_mirror}
-use Rattle.exact.proofs.Series.{fourth-most}
-use Rattle.exact.proofs.Approximation.{not-above, near_polynomial}
+use Rattle.exact.proofs.Series.{fourth_most}
+use Rattle.exact.proofs.Approximation.{not_above, near_polynomial}
 use Rattle.fixed.proofs.Alternating.{signed}
 use Rattle.circle.specs.Kernel.{kernel_first, kernel_rest}
 
@@ -35,23 +35,23 @@ mirrored false = add (mirror 1 11 (part true)).1 (mirror 1 11 (part false)).0
 
 -- the sums with the weights f less those with g are nowhere below the difference of two polynomials by more than a quarter of a unit
 abbrev Test : (ℕ → ℕ) → (ℕ → ℕ) → List ℕ → List ℕ → Type 0
-Test f g cs bs = T (not-above 9 11 quarter quarter_unit D 1 (4 * D) 16 (knots 1 16 0) f g cs bs)
+Test f g cs bs = T (not_above 9 11 quarter quarter_unit D 1 (4 * D) 16 (knots 1 16 0) f g cs bs)
 
-sine-least : Test (fourth 1) (fourth 3) (part true) (part false)
-unfolding not-above quarter quarter_unit fourth part knots
-sine-least = tt
+sine_least : Test (fourth 1) (fourth 3) (part true) (part false)
+unfolding not_above quarter quarter_unit fourth part knots
+sine_least = tt
 
-sine-most : Test (fourth 3) (fourth 1) (part false) (part true)
-unfolding not-above quarter quarter_unit fourth part knots
-sine-most = tt
+sine_most : Test (fourth 3) (fourth 1) (part false) (part true)
+unfolding not_above quarter quarter_unit fourth part knots
+sine_most = tt
 
-cosine-least : Test (fourth 0) (fourth 2) (mirrored true) (mirrored false)
-unfolding not-above quarter quarter_unit fourth mirrored knots
-cosine-least = tt
+cosine_least : Test (fourth 0) (fourth 2) (mirrored true) (mirrored false)
+unfolding not_above quarter quarter_unit fourth mirrored knots
+cosine_least = tt
 
-cosine-most : Test (fourth 2) (fourth 0) (mirrored false) (mirrored true)
-unfolding not-above quarter quarter_unit fourth mirrored knots
-cosine-most = tt
+cosine_most : Test (fourth 2) (fourth 0) (mirrored false) (mirrored true)
+unfolding not_above quarter quarter_unit fourth mirrored knots
+cosine_most = tt
 
 part_length : (s : Bool) → length (part s) ≤ 12
 unfolding part
@@ -74,13 +74,13 @@ module _ (x d : ℕ) (pos : 0 < d) (small : x ≤ d) where
   pub sine-near :
       LimitNear (partial (fourth 1) (quarter * x) (quarter_unit * d)) (partial (fourth 3) (quarter * x) (quarter_unit * d)) (denominator (quarter_unit * d)) (value 11 (part true) x d) (value 11 (part false) x d)
       (D * d ^ 11) 1 (4 * D)
-  sine-near = near (fourth 1) (fourth 3) (fourth-most 1) (fourth-most 3) (part true) (part false) (part_length true) (part_length false) sine-least sine-most
+  sine-near = near (fourth 1) (fourth 3) (fourth_most 1) (fourth_most 3) (part true) (part false) (part_length true) (part_length false) sine_least sine_most
 
   -- the cosine, as read from the other end
   pub cosine-near :
       LimitNear (partial (fourth 0) (quarter * x) (quarter_unit * d)) (partial (fourth 2) (quarter * x) (quarter_unit * d)) (denominator (quarter_unit * d)) (value 11 (mirrored true) x d)
       (value 11 (mirrored false) x d) (D * d ^ 11) 1 (4 * D)
-  cosine-near = near (fourth 0) (fourth 2) (fourth-most 0) (fourth-most 2) (mirrored true) (mirrored false) (mirrored_length true) (mirrored_length false) cosine-least cosine-most
+  cosine-near = near (fourth 0) (fourth 2) (fourth_most 0) (fourth_most 2) (mirrored true) (mirrored false) (mirrored_length true) (mirrored_length false) cosine_least cosine_most
 
 -- what is read from the other end is the polynomial at 1 - t
 pub mirrored_same : (x y d : ℕ) → y + x ≡ d → value 11 (mirrored true) x d + value 11 (part false) y d ≡ value 11 (mirrored false) x d + value 11 (part true) y d
@@ -97,11 +97,11 @@ top_test : T (each (below 4 11 (part true) (add (part false) ((D + 1) ∷ []))) 
 unfolding part each below knots add
 top_test = tt
 
-pub part-most : (x d : ℕ) → x ≤ d → value 11 (part true) x d ≤ value 11 (part false) x d + (D + 1) * d ^ 11
+pub part_most : (x d : ℕ) → x ≤ d → value 11 (part true) x d ≤ value 11 (part false) x d + (D + 1) * d ^ 11
 unfolding knots end
-part-most x d small =
+part_most x d small =
     rw (value-add 11 (part false) ((D + 1) ∷ []) x d, constant)
-    at (below-sound 4 11 (part true) (add (part false) ((D + 1) ∷ [])) (lit< tt) (part_length true) (length-add 12 (part false) ((D + 1) ∷ []) (part_length false) (lit≤ tt)) 0 (knots 1 4 0) top_test x d (omega arith) (mul-le-mul_left 4 small))
+    at (below_sound 4 11 (part true) (add (part false) ((D + 1) ∷ [])) (lit< tt) (part_length true) (length-add 12 (part false) ((D + 1) ∷ []) (part_length false) (lit≤ tt)) 0 (knots 1 4 0) top_test x d (omega arith) (mul-le-mul_left 4 small))
   where
     constant : value 11 ((D + 1) ∷ []) x d ≡ (D + 1) * d ^ 11
     constant = unfold value in omega arith

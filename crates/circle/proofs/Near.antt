@@ -23,8 +23,8 @@ module _ (t : ℕ) (few : t < 2 ^ 64) where
   pub wave-number : Number (wave t)
   wave-number = (wave-signed t few).number
 
-  pub wave-inside : mag (wave t) ≤ 2 ^ 149
-  wave-inside = le_trans (le_of_eq (wave-signed t few).size) (units_top (size_of t) (size_top t))
+  pub wave_inside : mag (wave t) ≤ 2 ^ 149
+  wave_inside = le_trans (le_of_eq (wave-signed t few).size) (units_top (size_of t) (size_top t))
 
 pub less : (n : ℕ) → n % 2 ^ 64 < 2 ^ 64
 less n = mod-lt n (pow_pos 64)
@@ -100,9 +100,9 @@ module _ (x : Float) (a : Accepts x) where
   abbrev t : ℕ
   t = radians (size_bits x)
 
-  t-few : t < 2 ^ 64
+  t_few : t < 2 ^ 64
   unfolding radians
-  t-few = less _
+  t_few = less _
 
   pub sin_is : sin_of x ≡ wave ((t + cond (negative x) 1 0 * 2 ^ 63) % 2 ^ 64)
   unfolding sin_of half_on
@@ -113,10 +113,10 @@ module _ (x : Float) (a : Accepts x) where
   cos_is = refl
 
   both_near : Both (mag x) (2 ^ 149) (P (wave ((t + 2 ^ 62) % 2 ^ 64))) (N (wave ((t + 2 ^ 62) % 2 ^ 64))) (P (wave t)) (N (wave t)) (2 ^ 149) wave_error_num wave_error_den
-  both_near = both_wider (lit< tt) (lit≤ tt) (both_float ((t + 2 ^ 62) % 2 ^ 64) t (less (t + 2 ^ 62)) t-few (radians_taken x a))
+  both_near = both_wider (lit< tt) (lit≤ tt) (both_float ((t + 2 ^ 62) % 2 ^ 64) t (less (t + 2 ^ 62)) t_few (radians_taken x a))
 
   pub sin_near : Sine (as_fraction x) (as_fraction (sin_of x)) (bound wave_error_num wave_error_den)
-  sin_near = sine_joined (negative x) t t-few both_near (sin_of x) sin_is
+  sin_near = sine_joined (negative x) t t_few both_near (sin_of x) sin_is
 
   pub cos_near : Cosine (as_fraction x) (as_fraction (cos_of x)) (bound wave_error_num wave_error_den)
   cos_near = cosine_joined (negative x) ((t + 2 ^ 62) % 2 ^ 64) both_near (cos_of x) cos_is

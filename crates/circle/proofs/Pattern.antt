@@ -12,7 +12,7 @@ use Rattle.fixed.proofs.Rounding as fixed
 use Rattle.fixed.proofs.Rounding.{units_of, bits_fit, is_units, half_most, half_least, units_order}
 use Rattle.circle.specs.Wave.{forward, into_quarter, place_of, size_of, wave_bits, wave}
 use Rattle.circle.proofs.Method.{D}
-use Rattle.circle.proofs.Rounding.{quarter-top}
+use Rattle.circle.proofs.Rounding.{quarter_top}
 
 -- every number above zero of such units is a normal float's
 pub normal : (n : ℕ) → Normal n 157
@@ -22,9 +22,9 @@ normal n = record { least = λ h. le_trans (le_trans (lit≤ tt) (mul-le-mul_rig
 
 module _ (t : ℕ) where
   -- a place has 32 digits
-  pub place-few : place_of t < D
+  pub place_few : place_of t < D
   unfolding place_of into_quarter
-  place-few = go (forward t) (into_quarter t) (mod-lt _ (pow_pos 32))
+  place_few = go (forward t) (into_quarter t) (mod-lt _ (pow_pos 32))
     where
       go : (b : Bool) (n : ℕ) → n < 2 ^ 32 → cond b n (4294967295 - n) < D
       go true n l = omega arith
@@ -32,7 +32,7 @@ module _ (t : ℕ) where
 
   pub size_top : size_of t ≤ D + 7
   unfolding size_of
-  size_top = quarter-top (place_of t) place-few
+  size_top = quarter_top (place_of t) place_few
 
 -- ---- rounding
 
@@ -91,9 +91,9 @@ module _ (t : ℕ) where
   unfolding wave_bits
   wave-zero z = rw (eq-eqb (size_of t) 0 z)
 
-  wave-some : (size_of t ≡ 0 → ⊥) → wave_bits t ≡ t / 2 ^ 63 * 2147483648 + nearest_bits (size_of t) 157
+  wave_some : (size_of t ≡ 0 → ⊥) → wave_bits t ≡ t / 2 ^ 63 * 2147483648 + nearest_bits (size_of t) 157
   unfolding wave_bits
-  wave-some h = rw (ne_eqb (size_of t) 0 h)
+  wave_some h = rw (ne_eqb (size_of t) 0 h)
 
 -- the float x of the pattern b is what was computed, rounded
 pub record Computed (t b : ℕ) (x : Float) : Type 0 where
@@ -165,7 +165,7 @@ module _ (t : ℕ) (few : t < 2 ^ 64) where
   unfolding wave
   wave-signed = elim (eq-zero-or-pos n) [
     | inl z ↦ rw (wave-zero t z) (nothing z)
-    | inr h ↦ rw (wave-some t (λ z. omega arith)) (either (le-or-lt (2 ^ 63) t) h)
+    | inr h ↦ rw (wave_some t (λ z. omega arith)) (either (le-or-lt (2 ^ 63) t) h)
   ]
     where
       either : (2 ^ 63 ≤ t) ⊎ (t < 2 ^ 63) → 0 < n → Computed t (t / 2 ^ 63 * 2147483648 + nearest_bits n 157) (of_bits binary32 (t / 2 ^ 63 * 2147483648 + nearest_bits n 157))

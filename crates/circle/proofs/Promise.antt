@@ -11,7 +11,7 @@ use Rattle.circle.specs.Wave.{wave_bits, wave, half_on, quarter_on, sin_pi_of, c
 use Rattle.circle.specs.Promise.{AcceptsPi, Accepts, wave_error_num, wave_error_den, pi_error_num, pi_error_den, as_fraction, pi_times, SinPi, CosPi, Sin, Cos}
 use Rattle.circle.proofs.Pattern.{wave_pattern}
 use Rattle.circle.proofs.Taken.{size_bits}
-use Rattle.circle.proofs.Near.{less, wave-number, wave-inside, open_bound, sin_pi_is, cos_pi_is, sin_is, cos_is, sin_pi_near, cos_pi_near, sin_pi_enclosed, cos_pi_enclosed, sin_near, cos_near}
+use Rattle.circle.proofs.Near.{less, wave-number, wave_inside, open_bound, sin_pi_is, cos_pi_is, sin_is, cos_is, sin_pi_near, cos_pi_near, sin_pi_enclosed, cos_pi_enclosed, sin_near, cos_near}
 use Rattle.circle.proofs.Whole.{sin_pi_whole, cos_pi_whole}
 
 -- a result that is a wave's is finite, and from -1 to 1
@@ -20,7 +20,7 @@ module _ {r : Float} (t : ℕ) (e : r ≡ wave (t % 2 ^ 64)) where
   number_of = subst Number (sym e) (wave-number _ (less t))
 
   inside_of : mag r ≤ 2 ^ 149
-  inside_of = subst (λ (r : Float). mag r ≤ 2 ^ 149) (sym e) (wave-inside _ (less t))
+  inside_of = subst (λ (r : Float). mag r ≤ 2 ^ 149) (sym e) (wave_inside _ (less t))
 
 -- the pattern that is written is the value's
 ended : {Promise : ℕ → Float → Type 0} {before after : ℕ} (t : ℕ) → Promise 0 (wave (t % 2 ^ 64)) → after ≡ wave_bits (t % 2 ^ 64) → Ends float_bits Promise 0 before after

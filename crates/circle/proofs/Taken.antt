@@ -6,7 +6,7 @@ use Rattle.units.specs.Units.{mag, Number}
 use Rattle.units.proofs.Naturals.{le-or-lt}
 use Rattle.units.proofs.Patterns.{below_infinity}
 use Rattle.exact.proofs.Limits.{Both}
-use Rattle.fixed.proofs.Either.{Normal, Subnormal, size-bits}
+use Rattle.fixed.proofs.Either.{Normal, Subnormal, size_bits_lem}
 use Rattle.circle.specs.Phase.{significand_of, exponent_field, half_turns, window_of, radians}
 use Rattle.circle.specs.Promise.{Accepts}
 use Rattle.circle.proofs.Method.{D}
@@ -21,7 +21,7 @@ size_bits x = to_bits binary32 x % 2147483648
 -- ---- pi x: half of x's turns
 pub half_turns_taken : (x : Float) → Number x → half_turns (size_bits x) ≡ mag x / 2 ^ 86 % 2 ^ 64
 unfolding half_turns
-half_turns_taken x h = go (size-bits x h)
+half_turns_taken x h = go (size_bits_lem x h)
   where
     b : ℕ
     b = size_bits x
@@ -38,17 +38,17 @@ half_turns_taken x h = go (size-bits x h)
         few b = omega arith
 
 -- ---- x itself
-first-window : window_of 0 ≡ 0
+first_window : window_of 0 ≡ 0
 unfolding window_of
-first-window = refl
+first_window = refl
 
 module _ (x : Float) (a : Accepts x) where
   abbrev b : ℕ
   b = size_bits x
 
   -- the exponent of a finite size
-  top-exponent : exponent_field b ≤ 254
-  top-exponent = let l : b < 2139095040 = below_infinity x a in omega arith
+  top_exponent_lem : exponent_field b ≤ 254
+  top_exponent_lem = let l : b < 2139095040 = below_infinity x a in omega arith
 
   abbrev t : ℕ
   t = radians b
@@ -62,19 +62,19 @@ module _ (x : Float) (a : Accepts x) where
   far h units =
       let i = exponent_field b - 86 in
       let W = turns_of i in
-      let place : i < windows = let l = top-exponent in omega arith in
-      let reduced : significand_of b * window_of i % 2 ^ 64 ≡ significand_of b * W % 2 ^ 64 = ap (λ (n : ℕ). significand_of b * n % 2 ^ 64) (window_turns i place) ∙ mul-mod-rest (significand_of b) W in
-      let on : (significand_of b * window_of i % 2 ^ 64 + 2 ^ 62) % 2 ^ 64 ≡ (significand_of b * W + 2 ^ 62) % 2 ^ 64 = ap (λ (n : ℕ). (n + 2 ^ 62) % 2 ^ 64) reduced ∙ add-rest (significand_of b * W) in
+      let place : i < windows = let l = top_exponent_lem in omega arith in
+      let reduced : significand_of b * window_of i % 2 ^ 64 ≡ significand_of b * W % 2 ^ 64 = ap (λ (n : ℕ). significand_of b * n % 2 ^ 64) (window_turns i place) ∙ mul-mod_rest (significand_of b) W in
+      let on : (significand_of b * window_of i % 2 ^ 64 + 2 ^ 62) % 2 ^ 64 ≡ (significand_of b * W + 2 ^ 62) % 2 ^ 64 = ap (λ (n : ℕ). (n + 2 ^ 62) % 2 ^ 64) reduced ∙ add_rest (significand_of b * W) in
       rw (on, reduced) (turns-arrived (mag x) (significand_of b) i (omega arith) (omega arith) halved)
     where
-      mul-mod-rest : (m n : ℕ) → m * (n % 2 ^ 64) % 2 ^ 64 ≡ m * n % 2 ^ 64
-      mul-mod-rest m n = sym (ap (λ (k : ℕ). k % 2 ^ 64) (split (n / 2 ^ 64) (n % 2 ^ 64) (omega arith)) ∙ add-mul-mod_self_right (m * (n % 2 ^ 64)) (m * (n / 2 ^ 64)) (2 ^ 64))
+      mul-mod_rest : (m n : ℕ) → m * (n % 2 ^ 64) % 2 ^ 64 ≡ m * n % 2 ^ 64
+      mul-mod_rest m n = sym (ap (λ (k : ℕ). k % 2 ^ 64) (split (n / 2 ^ 64) (n % 2 ^ 64) (omega arith)) ∙ add-mul-mod_self_right (m * (n % 2 ^ 64)) (m * (n / 2 ^ 64)) (2 ^ 64))
         where
           split : (q r : ℕ) → q * 2 ^ 64 + r ≡ n → m * n ≡ m * r + m * q * 2 ^ 64
           split q r e = omega (arith, ap (λ (k : ℕ). m * k) e)
 
-      add-rest : (n : ℕ) → (n % 2 ^ 64 + 2 ^ 62) % 2 ^ 64 ≡ (n + 2 ^ 62) % 2 ^ 64
-      add-rest n = omega arith
+      add_rest : (n : ℕ) → (n % 2 ^ 64 + 2 ^ 62) % 2 ^ 64 ≡ (n + 2 ^ 62) % 2 ^ 64
+      add_rest n = omega arith
 
       halved : mag x ≡ significand_of b * 2 ^ (exponent_field b - 86 + 85)
       halved =
@@ -89,7 +89,7 @@ module _ (x : Float) (a : Accepts x) where
   unfolding radians
   near little h =
       let none : exponent_field b - 86 ≡ 0 = omega arith in
-      rw (none, first-window, mul-zero (significand_of b)) (still_arrived (mag x) little)
+      rw (none, first_window, mul-zero (significand_of b)) (still_arrived (mag x) little)
 
   under : exponent_field b < 86 → 2 * mag x ≡ significand_of b * 2 ^ exponent_field b → mag x < 2 ^ 110
   under l units =
@@ -103,7 +103,7 @@ module _ (x : Float) (a : Accepts x) where
       twice m = omega arith
 
   pub radians_taken : Result
-  radians_taken = go (size-bits x a) (le-or-lt 86 (exponent_field b))
+  radians_taken = go (size_bits_lem x a) (le-or-lt 86 (exponent_field b))
     where
       go : Normal x b ⊎ Subnormal x b → (86 ≤ exponent_field b) ⊎ (exponent_field b < 86) → Result
       go (inl n) (inl l) = far l n.units

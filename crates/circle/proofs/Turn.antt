@@ -11,7 +11,7 @@ use Rattle.exact.proofs.Turns.{turned0, turned1, turned2, turned3}
 use Rattle.circle.specs.Kernel.{quarter_sine}
 use Rattle.circle.specs.Wave.{forward, into_quarter, place_of, size_of}
 use Rattle.circle.proofs.Method.{D, part, mirrored, sine-near, cosine-near, mirrored_same}
-use Rattle.circle.proofs.Rounding.{quarter-most, quarter-least}
+use Rattle.circle.proofs.Rounding.{quarter_most, quarter_least}
 use Rattle.circle.proofs.Pattern.{plus_of, minus_of}
 
 -- ---- one quarter
@@ -23,27 +23,27 @@ pub record Cut (w x d : ℕ) : Type 0 where
   pub high : x * D ≤ (w + 1) * d
 
 module _ (w v x y d : ℕ) (pos : 0 < d) (whole : y + x ≡ d) (a : Cut w x d) (b : Cut v y d) where
-  pub quarter-near : Both (quarter * x) (quarter_unit * d) (quarter_sine v) 0 (quarter_sine w) 0 D 25 (4 * D)
-  quarter-near = record {
+  pub quarter_near : Both (quarter * x) (quarter_unit * d) (quarter_sine v) 0 (quarter_sine w) 0 D 25 (4 * D)
+  quarter_near = record {
     cosine =
         near_wider (lit< tt) (lit≤ tt)
-        (near_instead (quarter_sine v) 0 6 (one-le-pow 11 d pos) cosine-low cosine-high (cosine-near x d pos (omega arith)));
+        (near_instead (quarter_sine v) 0 6 (one-le-pow 11 d pos) cosine_low cosine_high (cosine-near x d pos (omega arith)));
     sine =
         near_wider (lit< tt) (lit≤ tt)
-        (near_instead (quarter_sine w) 0 6 (one-le-pow 11 d pos) sine-low sine-high (sine-near x d pos (omega arith)));
+        (near_instead (quarter_sine w) 0 6 (one-le-pow 11 d pos) sine_low sine_high (sine-near x d pos (omega arith)));
   }
     where
-      sine-low : quarter_sine w * d ^ 11 + value 11 (part false) x d ≤ value 11 (part true) x d + 0 * d ^ 11 + 6 * d ^ 11
-      sine-low = omega (arith, quarter-most w x d a.few pos (omega arith) a.low a.high)
+      sine_low : quarter_sine w * d ^ 11 + value 11 (part false) x d ≤ value 11 (part true) x d + 0 * d ^ 11 + 6 * d ^ 11
+      sine_low = omega (arith, quarter_most w x d a.few pos (omega arith) a.low a.high)
 
-      sine-high : value 11 (part true) x d + 0 * d ^ 11 ≤ quarter_sine w * d ^ 11 + value 11 (part false) x d + 6 * d ^ 11
-      sine-high = omega (arith, quarter-least w x d a.few pos (omega arith) a.low a.high)
+      sine_high : value 11 (part true) x d + 0 * d ^ 11 ≤ quarter_sine w * d ^ 11 + value 11 (part false) x d + 6 * d ^ 11
+      sine_high = omega (arith, quarter_least w x d a.few pos (omega arith) a.low a.high)
 
-      cosine-low : quarter_sine v * d ^ 11 + value 11 (mirrored false) x d ≤ value 11 (mirrored true) x d + 0 * d ^ 11 + 6 * d ^ 11
-      cosine-low = omega (arith, mirrored_same x y d whole, quarter-most v y d b.few pos (omega arith) b.low b.high)
+      cosine_low : quarter_sine v * d ^ 11 + value 11 (mirrored false) x d ≤ value 11 (mirrored true) x d + 0 * d ^ 11 + 6 * d ^ 11
+      cosine_low = omega (arith, mirrored_same x y d whole, quarter_most v y d b.few pos (omega arith) b.low b.high)
 
-      cosine-high : value 11 (mirrored true) x d + 0 * d ^ 11 ≤ quarter_sine v * d ^ 11 + value 11 (mirrored false) x d + 6 * d ^ 11
-      cosine-high = omega (arith, mirrored_same x y d whole, quarter-least v y d b.few pos (omega arith) b.low b.high)
+      cosine_high : value 11 (mirrored true) x d + 0 * d ^ 11 ≤ quarter_sine v * d ^ 11 + value 11 (mirrored false) x d + 6 * d ^ 11
+      cosine_high = omega (arith, mirrored_same x y d whole, quarter_least v y d b.few pos (omega arith) b.low b.high)
 
 -- ---- a phase, by its quarter
 
@@ -52,9 +52,9 @@ module _ (t r : ℕ) (rest : t % 2 ^ 62 ≡ r) where
   digits : t / 2 ^ 30 % 2 ^ 32 ≡ r / 2 ^ 30
   digits = omega arith
 
-  even-size : t / 2 ^ 62 % 2 ≡ 0 → size_of t ≡ quarter_sine (r / 2 ^ 30)
+  even_size : t / 2 ^ 62 % 2 ≡ 0 → size_of t ≡ quarter_sine (r / 2 ^ 30)
   unfolding size_of place_of forward into_quarter
-  even-size e = rw (eq-eqb (t / 2 ^ 62 % 2) 0 e) (ap quarter_sine digits)
+  even_size e = rw (eq-eqb (t / 2 ^ 62 % 2) 0 e) (ap quarter_sine digits)
 
   odd_size : t / 2 ^ 62 % 2 ≡ 1 → size_of t ≡ quarter_sine (4294967295 - r / 2 ^ 30)
   unfolding size_of place_of forward into_quarter
@@ -71,13 +71,13 @@ module _ (t r : ℕ) (rest : t % 2 ^ 62 ≡ r) where
 
   -- by the quarter
   at0 : t / 2 ^ 62 ≡ 0 → (plus_of t ≡ quarter_sine (r / 2 ^ 30)) × (minus_of t ≡ 0)
-  at0 e = above (omega arith) (even-size (omega arith))
+  at0 e = above (omega arith) (even_size (omega arith))
 
   at1 : t / 2 ^ 62 ≡ 1 → (plus_of t ≡ quarter_sine (4294967295 - r / 2 ^ 30)) × (minus_of t ≡ 0)
   at1 e = above (omega arith) (odd_size (omega arith))
 
   at2 : t / 2 ^ 62 ≡ 2 → (plus_of t ≡ 0) × (minus_of t ≡ quarter_sine (r / 2 ^ 30))
-  at2 e = under (omega arith) (even-size (omega arith))
+  at2 e = under (omega arith) (even_size (omega arith))
 
   at3 : t / 2 ^ 62 ≡ 3 → (plus_of t ≡ 0) × (minus_of t ≡ quarter_sine (4294967295 - r / 2 ^ 30))
   at3 e = under (omega arith) (odd_size (omega arith))
@@ -108,7 +108,7 @@ module _ (t : ℕ) (small : t < 2 ^ 200) where
 
   within : Both (quarter * r) (quarter_unit * 2 ^ 62) (quarter_sine v) 0 (quarter_sine w) 0 D 25 (4 * D)
   within =
-      quarter-near w v r (2 ^ 62 - r) (2 ^ 62) (lit< tt) (omega arith)
+      quarter_near w v r (2 ^ 62 - r) (2 ^ 62) (lit< tt) (omega arith)
       (record { few = omega arith; low = omega arith; high = omega arith }) (record { few = omega arith; low = omega arith; high = omega arith })
 
   -- the place, after k quarters

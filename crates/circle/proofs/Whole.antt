@@ -35,8 +35,8 @@ module _ (M : ℕ) (j : ℕ) (whole : 2 * M ≡ j * 2 ^ 149) where
       half M j a b e = omega arith
 
 -- a sign's patterns: the sine of the opposite angle, and the cosine of it
-same-quarter : (n m : ℕ) → n % 4 ≡ m % 4 → at_quarter n ≡ at_quarter m
-same-quarter n m e = ap (λ (i : ℕ). of_bits binary32 (get_or quarter_bits i 0)) e
+same_quarter : (n m : ℕ) → n % 4 ≡ m % 4 → at_quarter n ≡ at_quarter m
+same_quarter n m e = ap (λ (i : ℕ). of_bits binary32 (get_or quarter_bits i 0)) e
 
 by_rest : (n m a b : ℕ) → n % 4 ≡ a → m % 4 ≡ b → get_or quarter_bits a 0 ≡ get_or quarter_bits b 0 → at_quarter n ≡ at_quarter m
 by_rest n m a b f g h = rw (f, g) (ap (λ (p : ℕ). of_bits binary32 p) h)
@@ -85,7 +85,7 @@ module _ (x : Float) (h : Number x) (k l : ℕ) where
       go false M e =
           let (j, s, w) = difference M k l (2 ^ 149) (pow_pos 149) e in
           let place : (j * 2 ^ 62 % 2 ^ 64 + 0) % 2 ^ 64 ≡ j % 4 * 2 ^ 62 = omega arith in
-          rw (quarters M j w, place) (after_quarters j ∙ same-quarter j (k + 3 * l) (sym (turns_more (k + 3 * l) j l (omega arith))))
+          rw (quarters M j w, place) (after_quarters j ∙ same_quarter j (k + 3 * l) (sym (turns_more (k + 3 * l) j l (omega arith))))
       go true M e =
           let (j, s, w) = difference M l k (2 ^ 149) (pow_pos 149) (sym e) in
           let place : (j * 2 ^ 62 % 2 ^ 64 + 2 ^ 63) % 2 ^ 64 ≡ (j + 2) % 4 * 2 ^ 62 = omega arith in
@@ -98,7 +98,7 @@ module _ (x : Float) (h : Number x) (k l : ℕ) where
       go false M e =
           let (j, s, w) = difference M k l (2 ^ 149) (pow_pos 149) e in
           let place : (j * 2 ^ 62 + 2 ^ 62) % 2 ^ 64 ≡ (j + 1) % 4 * 2 ^ 62 = omega arith in
-          rw (quarters M j w, place) (after_quarters (j + 1) ∙ same-quarter (j + 1) (k + 3 * l + 1) (sym (turns_more (k + 3 * l + 1) (j + 1) l (omega arith))))
+          rw (quarters M j w, place) (after_quarters (j + 1) ∙ same_quarter (j + 1) (k + 3 * l + 1) (sym (turns_more (k + 3 * l + 1) (j + 1) l (omega arith))))
       go true M e =
           let (j, s, w) = difference M l k (2 ^ 149) (pow_pos 149) (sym e) in
           let place : (j * 2 ^ 62 + 2 ^ 62) % 2 ^ 64 ≡ (j + 1) % 4 * 2 ^ 62 = omega arith in

@@ -48,10 +48,10 @@ unfolding all cut_test window_of
 cut_passes = (tt, tt)
 
 module _ (i : ℕ) where
-  pub first-word : i < 32 → first_word / 2 ^ (31 - i) ≡ window_of i
+  pub first_word_lem : i < 32 → first_word / 2 ^ (31 - i) ≡ window_of i
   unfolding cut_test
-  first-word h = eqb→eq (first_word / 2 ^ (31 - i)) (window_of i) (all_sound (cut_test first_word 31) 32 cut_passes.0 i h)
+  first_word_lem h = eqb→eq (first_word / 2 ^ (31 - i)) (window_of i) (all_sound (cut_test first_word 31) 32 cut_passes.0 i h)
 
-  pub first-digits : i < 64 → first_digits / 2 ^ (63 - i) ≡ window_of i
+  pub first_digits_lem : i < 64 → first_digits / 2 ^ (63 - i) ≡ window_of i
   unfolding cut_test
-  first-digits h = eqb→eq (first_digits / 2 ^ (63 - i)) (window_of i) (all_sound (cut_test first_digits 63) 64 cut_passes.1 i h)
+  first_digits_lem h = eqb→eq (first_digits / 2 ^ (63 - i)) (window_of i) (all_sound (cut_test first_digits 63) 64 cut_passes.1 i h)

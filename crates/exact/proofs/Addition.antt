@@ -9,7 +9,7 @@ use native.Mathlib.Omega.{arith}
 use lib.Dec.{T, eqb, eqb→eq}
 use lib.Ieee.Fits.{and_l, and_r}
 use Rattle.exact.specs.Series.{partial, denominator, fourth}
-use Rattle.exact.proofs.Series.{over_pos, partial_grows, partial_tail, fourth-most, Small, small_terms}
+use Rattle.exact.proofs.Series.{over_pos, partial_grows, partial_tail, fourth_most, Small, small_terms}
 use Rattle.exact.proofs.Binomial.{binomial, binomial_over, binomial_next, row, row_grows, powers, row-powers}
 
 -- the partial sum of order i with the weights from the j-th on
@@ -21,8 +21,8 @@ unfoldable pub square : (ℕ → ℕ) → ℕ → ℕ → ℕ → ℕ → ℕ
 square f p r q n = partial (later f p q n) r q n
 
 -- a shorter partial sum is at most a longer one
-partial-least : (g : ℕ → ℕ) (p q i j : ℕ) → 0 < q → binomial i j * partial g p q i * denominator q j ≤ partial g p q (i + j)
-partial-least g p q i j pos =
+partial_least : (g : ℕ → ℕ) (p q i j : ℕ) → 0 < q → binomial i j * partial g p q i * denominator q j ≤ partial g p q (i + j)
+partial_least g p q i j pos =
     le_of_mul-le-mul_right
     (through (binomial i j) (partial g p q i) (denominator q i) (denominator q j) (partial g p q (i + j)) (denominator q (i + j)) (binomial_over q i j) (partial_grows g p q i (i + j) (omega arith)))
     (over_pos q i pos)
@@ -68,20 +68,20 @@ module _ (f : ℕ → ℕ) (p r q : ℕ) where
 
   -- ---- within the square
 
-  square-holds : 0 < q → (n i j : ℕ) → i + j ≡ n → row column i j * denominator q j ≤ partial (later f p q n) r q j
+  square_holds : 0 < q → (n i j : ℕ) → i + j ≡ n → row column i j * denominator q j ≤ partial (later f p q n) r q j
   unfolding row column partial denominator
-  square-holds pos n i zero e = let same : i ≡ n = omega arith in rw (same, pow-zero r) (omega arith)
-  square-holds pos n i (suc j) e =
+  square_holds pos n i zero e = let same : i ≡ n = omega arith in rw (same, pow-zero r) (omega arith)
+  square_holds pos n i (suc j) e =
       through (row column (suc i) j) (partial (later f p q n) r q j) (denominator q j) (binomial i (suc j)) (r ^ suc j) (later f p q i (suc j))
-      (later f p q n (suc j)) (suc j * q) (square-holds pos n (suc i) j (omega arith)) (rw e at (partial-least (λ k. f (k + suc j)) p q i (suc j) pos))
+      (later f p q n (suc j)) (suc j * q) (square_holds pos n (suc i) j (omega arith)) (rw e at (partial_least (λ k. f (k + suc j)) p q i (suc j) pos))
     where
       through : (A W D b R E G s : ℕ) → A * D ≤ W → b * E * (D * s) ≤ G → (A + b * (R * E)) * (D * s) ≤ W * s + G * R
       through A W D b R E G s h l = omega (arith, mul-le-mul_right s h, mul-le-mul_right R l)
 
   -- the partial sum at the sum is at most the product
-  pub sum-least : 0 < q → (n : ℕ) → partial f (p + r) q n * denominator q n ≤ square f p r q n
+  pub sum_least : 0 < q → (n : ℕ) → partial f (p + r) q n * denominator q n ≤ square f p r q n
   unfolding square
-  sum-least pos n = rw (← triangle n) (square-holds pos n 0 n (zero-add n))
+  sum_least pos n = rw (← triangle n) (square_holds pos n 0 n (zero-add n))
 
   -- ---- about the square
 
@@ -98,9 +98,9 @@ module _ (f : ℕ → ℕ) (p r q : ℕ) where
       through A W D b R E G s O N M h k e = omega (arith, mul-le-mul_right s h, mul-le-mul_right (b * D * s * R) k, ap (λ (x : ℕ). G * R * x) e)
 
   -- the product is at most the partial sum of twice the order at the sum
-  pub square-most : (n : ℕ) → square f p r q n * denominator q (n + n) ≤ partial f (p + r) q (n + n) * (denominator q n * denominator q n)
+  pub square_most : (n : ℕ) → square f p r q n * denominator q (n + n) ≤ partial f (p + r) q (n + n) * (denominator q n * denominator q n)
   unfolding square
-  square-most n = rw (← triangle (n + n)) (le_trans (square_held n n n (omega arith)) (mul-le-mul_right (denominator q n * denominator q n) (row_grows column n n)))
+  square_most n = rw (← triangle (n + n)) (le_trans (square_held n n n (omega arith)) (mul-le-mul_right (denominator q n * denominator q n) (row_grows column n n)))
 
 -- ---- the theorem for any weights
 
@@ -113,9 +113,9 @@ pub record Close (S D M b : ℕ) : Type 0 where
 pub summed : (f : ℕ → ℕ) → ((k : ℕ) → f k ≤ 1) → (p r q b : ℕ) → 0 < q → (s : Small (p + r) q b) → (n : ℕ) → s.from ≤ n → Close (partial f (p + r) q n) (denominator q n) (square f p r q n) b
 summed f weights p r q b pos s n h =
     record {
-      least = sum-least f p r q pos n;
+      least = sum_least f p r q pos n;
       most = through (square f p r q n) (denominator q (n + n)) (partial f (p + r) q (n + n)) (partial f (p + r) q n) ((p + r) ^ n) (denominator q n)
-          (square-most f p r q n) (partial_tail f weights (p + r) q n (n + n) (s.halve n h) (omega arith)) (s.small n h) (over_pos q (n + n) pos);
+          (square_most f p r q n) (partial_tail f weights (p + r) q n (n + n) (s.halve n h) (omega arith)) (s.small n h) (over_pos q (n + n) pos);
     }
   where
     through : (M D' F' F P D : ℕ) → M * D' ≤ F' * (D * D) → F' * D ≤ (F + P) * D' → b * P ≤ D → 0 < D' → b * M ≤ b * (F * D) + D * D
@@ -144,10 +144,10 @@ unfoldable below : ℕ → (ℕ → Bool) → Bool
 below zero t = true
 below (suc n) t = t n && below n t
 
-below-sound : (n : ℕ) (t : ℕ → Bool) → T (below n t) → (k : ℕ) → k < n → T (t k)
+below_sound : (n : ℕ) (t : ℕ → Bool) → T (below n t) → (k : ℕ) → k < n → T (t k)
 unfolding below
-below-sound zero t h k l = absurd (omega arith)
-below-sound (suc n) t h k l = elim (eq-or-lt_of_le (le_of_suc-le-suc l)) [ inl e ↦ rw e (and_l (t n) (below n t) h) | inr less ↦ below-sound n t (and_r (t n) (below n t) h) k less ]
+below_sound zero t h k l = absurd (omega arith)
+below_sound (suc n) t h k l = elim (eq-or-lt_of_le (le_of_suc-le-suc l)) [ inl e ↦ rw e (and_l (t n) (below n t) h) | inr less ↦ below_sound n t (and_r (t n) (below n t) h) k less ]
 
 -- k + j leaves t where k leaves 0, 1, 2 or 3 and j leaves a, b, c or d
 unfoldable at_sum : ℕ → ℕ → ℕ → ℕ → ℕ → ℕ → ℕ → Bool
@@ -176,7 +176,7 @@ products p p' q n a b c d =
 module _ (t a b c d : ℕ) (test : T (splits t a b c d)) where
   small_splits : (k j : ℕ) → k < 4 → j < 4 → fourth t (k + j) ≡ fourth a j * fourth 0 k + fourth b j * fourth 1 k + fourth c j * fourth 2 k + fourth d j * fourth 3 k
   unfolding splits at_sum
-  small_splits k j h l = eqb→eq _ _ (below-sound 4 (at_sum t a b c d j) (below-sound 4 (λ j. below 4 (at_sum t a b c d j)) test j l) k h)
+  small_splits k j h l = eqb→eq _ _ (below_sound 4 (at_sum t a b c d j) (below_sound 4 (λ j. below 4 (at_sum t a b c d j)) test j l) k h)
 
   fourth_splits : (k j : ℕ) → fourth t (k + j) ≡ fourth a j * fourth 0 k + fourth b j * fourth 1 k + fourth c j * fourth 2 k + fourth d j * fourth 3 k
   fourth_splits k j = simp (fourth-add, fourth-mod) at (small_splits (k % 4) (j % 4) (mod-lt k (omega arith)) (mod-lt j (omega arith)))
@@ -195,7 +195,7 @@ module _ (t a b c d : ℕ) (test : T (splits t a b c d)) where
 
   -- the theorem for a class
   class_summed : (p p' q e : ℕ) → 0 < q → (s : Small (p + p') q e) → (n : ℕ) → s.from ≤ n → Close (partial (fourth t) (p + p') q n) (denominator q n) (products p p' q n a b c d) e
-  class_summed p p' q e pos s n h = rw (square_splits p p' q n) at (summed (fourth t) (fourth-most t) p p' q e pos s n h)
+  class_summed p p' q e pos s n h = rw (square_splits p p' q n) at (summed (fourth t) (fourth_most t) p p' q e pos s n h)
 
 -- each class at the sum p + p' is at most the products whose classes add up to it, and within 1 / b of them
 pub record Added (p p' q b n : ℕ) : Type 0 where

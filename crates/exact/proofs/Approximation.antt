@@ -12,8 +12,8 @@ use lib.Pow.{pow-add}
 use Rattle.exact.specs.Polynomial.{value}
 use Rattle.exact.specs.Series.{partial, denominator, LimitNear}
 use Rattle.exact.proofs.Power.{mul-pow}
-use Rattle.exact.proofs.Forms.{add, scale, value-add, value-scale_by, value_raise, length-add, length-scale}
-use Rattle.exact.proofs.Pieces.{each, end, below, below-sound}
+use Rattle.exact.proofs.Forms.{add, scale, value-add, value_scale_by, value_raise, length-add, length_scale}
+use Rattle.exact.proofs.Pieces.{each, end, below, below_sound}
 use Rattle.exact.proofs.Series.{over_pos, over_scale, partial_grows, partial_tail, terms, terms_length, partial-value}
 
 -- ---- a limit, by the sums of one order
@@ -84,11 +84,11 @@ module _ (j k c w K a b N : ℕ) (es : List ℕ) where
   abbrev most_list : (ℕ → ℕ) → List ℕ → List ℕ
   most_list f bs = add (scale b (add (scale (denominator w (j + k)) bs) (scale K (terms f c w (j + k))))) ((a * (K * denominator w (j + k))) ∷ [])
 
-  unfoldable pub not-above : (ℕ → ℕ) → (ℕ → ℕ) → List ℕ → List ℕ → Bool
+  unfoldable pub not_above : (ℕ → ℕ) → (ℕ → ℕ) → List ℕ → List ℕ → Bool
   unfolding scale add denominator terms each below
-  not-above f g cs bs = each (below N (j + k) (least_list g cs) (most_list f bs)) 0 es
+  not_above f g cs bs = each (below N (j + k) (least_list g cs) (most_list f bs)) 0 es
 
-  module _ (pos : 0 < N) (whole : end 0 es ≡ N) (f g : ℕ → ℕ) (cs bs : List ℕ) (fits : length cs ≤ suc k) (fits' : length bs ≤ suc k) (test : T (not-above f g cs bs)) (x d : ℕ) (small : x ≤ d) where
+  module _ (pos : 0 < N) (whole : end 0 es ≡ N) (f g : ℕ → ℕ) (cs bs : List ℕ) (fits : length cs ≤ suc k) (fits' : length bs ≤ suc k) (test : T (not_above f g cs bs)) (x d : ℕ) (small : x ≤ d) where
     abbrev n : ℕ
     n = j + k
 
@@ -96,37 +96,37 @@ module _ (j k c w K a b N : ℕ) (es : List ℕ) where
     unfolding value
     constant t = omega arith
 
-    least-length : length (least_list g cs) ≤ suc n
-    least-length =
-        rw length-scale
-        (length-add (suc n) (scale (denominator w n) cs) (scale K (add (terms g c w n) ((c ^ n) ∷ []))) (rw length-scale (omega arith))
-        (rw length-scale (length-add (suc n) (terms g c w n) ((c ^ n) ∷ []) (terms_length g c w n) (omega arith))))
+    least_length : length (least_list g cs) ≤ suc n
+    least_length =
+        rw length_scale
+        (length-add (suc n) (scale (denominator w n) cs) (scale K (add (terms g c w n) ((c ^ n) ∷ []))) (rw length_scale (omega arith))
+        (rw length_scale (length-add (suc n) (terms g c w n) ((c ^ n) ∷ []) (terms_length g c w n) (omega arith))))
 
-    most-length : length (most_list f bs) ≤ suc n
-    most-length =
+    most_length : length (most_list f bs) ≤ suc n
+    most_length =
         length-add (suc n) (scale b (add (scale (denominator w n) bs) (scale K (terms f c w n)))) ((a * (K * denominator w n)) ∷ [])
-        (rw length-scale (length-add (suc n) (scale (denominator w n) bs) (scale K (terms f c w n)) (rw length-scale (omega arith)) (rw length-scale (terms_length f c w n)))) (omega arith)
+        (rw length_scale (length-add (suc n) (scale (denominator w n) bs) (scale K (terms f c w n)) (rw length_scale (omega arith)) (rw length_scale (terms_length f c w n)))) (omega arith)
 
     -- the tested inequality, at x / d
     tested : b * (denominator w n * (d ^ j * value k cs x d) + K * (value n (terms g c w n) x d + c ^ n * d ^ n))
         ≤ b * (denominator w n * (d ^ j * value k bs x d) + K * value n (terms f c w n) x d) + a * (K * denominator w n) * d ^ n
-    unfolding not-above
+    unfolding not_above
     tested =
-        let h : value n (least_list g cs) x d ≤ value n (most_list f bs) x d = below-sound N n (least_list g cs) (most_list f bs) pos least-length most-length 0 es test x d (omega arith) (rw whole (mul-le-mul_left N small)) in
+        let h : value n (least_list g cs) x d ≤ value n (most_list f bs) x d = below_sound N n (least_list g cs) (most_list f bs) pos least_length most_length 0 es test x d (omega arith) (rw whole (mul-le-mul_left N small)) in
         rw (
-          value-scale_by n b (add (scale (denominator w n) cs) (scale K (add (terms g c w n) ((c ^ n) ∷ [])))) x d,
+          value_scale_by n b (add (scale (denominator w n) cs) (scale K (add (terms g c w n) ((c ^ n) ∷ [])))) x d,
           value-add n (scale (denominator w n) cs) (scale K (add (terms g c w n) ((c ^ n) ∷ []))) x d,
-          value-scale_by n (denominator w n) cs x d,
+          value_scale_by n (denominator w n) cs x d,
           value_raise j k cs x d fits,
-          value-scale_by n K (add (terms g c w n) ((c ^ n) ∷ [])) x d,
+          value_scale_by n K (add (terms g c w n) ((c ^ n) ∷ [])) x d,
           value-add n (terms g c w n) ((c ^ n) ∷ []) x d,
           constant (c ^ n),
           value-add n (scale b (add (scale (denominator w n) bs) (scale K (terms f c w n)))) ((a * (K * denominator w n)) ∷ []) x d,
-          value-scale_by n b (add (scale (denominator w n) bs) (scale K (terms f c w n))) x d,
+          value_scale_by n b (add (scale (denominator w n) bs) (scale K (terms f c w n))) x d,
           value-add n (scale (denominator w n) bs) (scale K (terms f c w n)) x d,
-          value-scale_by n (denominator w n) bs x d,
+          value_scale_by n (denominator w n) bs x d,
           value_raise j k bs x d fits',
-          value-scale_by n K (terms f c w n) x d,
+          value_scale_by n K (terms f c w n) x d,
           constant (a * (K * denominator w n)),
         ) at h
 
@@ -147,7 +147,7 @@ module _ (j k c w K a b N : ℕ) (es : List ℕ) where
 
   -- both tests, and the limit is near the polynomials' difference
   pub near_polynomial : 0 < N → end 0 es ≡ N → 0 < w → 2 * c ≤ suc (j + k) * w → (f g : ℕ → ℕ) → ((i : ℕ) → f i ≤ 1) → ((i : ℕ) → g i ≤ 1) →
-      (cs bs : List ℕ) → length cs ≤ suc k → length bs ≤ suc k → T (not-above f g cs bs) → T (not-above g f bs cs) → (x d : ℕ) → 0 < d → x ≤ d →
+      (cs bs : List ℕ) → length cs ≤ suc k → length bs ≤ suc k → T (not_above f g cs bs) → T (not_above g f bs cs) → (x d : ℕ) → 0 < d → x ≤ d →
       LimitNear (partial f (c * x) (w * d)) (partial g (c * x) (w * d)) (denominator (w * d)) (value k cs x d) (value k bs x d) (K * d ^ k) a b
   near_polynomial pos whole wpos halve f g f-small g-small cs bs fits fits' low high x d dpos small =
       near-by-order f g f-small g-small (c * x) (w * d) (j + k) (one-le-mul wpos dpos) halved (value k cs x d) (value k bs x d) (K * d ^ k) a b

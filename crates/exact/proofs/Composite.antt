@@ -12,8 +12,8 @@ use lib.Ieee.Fits.{and_l, and_r}
 use lib.Pow.{pow-add}
 use Rattle.exact.specs.Polynomial.{value}
 use Rattle.exact.proofs.Power.{pow-mul}
-use Rattle.exact.proofs.Polynomial.{value-scale}
-use Rattle.exact.proofs.Forms.{add, scale, subtract, mul, compose, dominated, value-add, value-scale_by, value_subtract, value-mul, value_dominated, value_compose, length-scale, length_subtract, length_compose}
+use Rattle.exact.proofs.Polynomial.{value_scale}
+use Rattle.exact.proofs.Forms.{add, scale, subtract, mul, compose, dominated, value-add, value_scale_by, value_subtract, value-mul, value_dominated, value_compose, length_scale, length_subtract, length_compose}
 use Rattle.exact.proofs.Pieces.{each, end, over, Inside, inside, piece, value_piece, denominator_piece, length_piece, length-denominator_piece}
 
 -- ---- an inequality either way
@@ -74,10 +74,10 @@ module _ (up : Bool) (N n : ℕ) (cs ds : List ℕ) (j : ℕ) (plus minus : List
 
   module _ (fits-cs : length cs ≤ suc n) (fits-ds : length ds ≤ suc n) (fits-plus : length plus ≤ suc j) (fits-minus : length minus ≤ suc j) (fits-us : length us ≤ suc m) (fits-bs : length bs ≤ suc (n + m * j)) where
     module _ {a b x d : ℕ} (i : Inside N a b x d) where
-      value-top : T (dominated (piece N a b j minus).0 (piece N a b j plus).0) →
+      value_top : T (dominated (piece N a b j minus).0 (piece N a b j plus).0) →
           (z : ℕ) × (z + value j minus x d ≡ value j plus x d) × (value (j * 1) (top a b) i.u i.v ≡ z * i.k ^ j)
       unfolding top
-      value-top t =
+      value_top t =
           split (value (j * 1) (top a b) i.u i.v) (value j minus x d) (value j plus x d) (i.k ^ j) (one-le-pow j i.k i.pos)
           (rw (value_piece i j minus fits-minus, value_piece i j plus fits-plus)
           at (value_subtract (j * 1) (piece N a b j plus).0 (piece N a b j minus).0 i.u i.v t))
@@ -87,7 +87,7 @@ module _ (up : Bool) (N n : ℕ) (cs ds : List ℕ) (j : ℕ) (plus minus : List
       fits_top = rw length_subtract (length_piece N a b j plus fits-plus)
 
       fits_bottom : length (scale B (piece N a b j plus).1) ≤ suc (j * 1)
-      fits_bottom = rw length-scale (length-denominator_piece N a b j plus)
+      fits_bottom = rw length_scale (length-denominator_piece N a b j plus)
 
       fits_inner : length (inner a b) ≤ suc (m * (j * 1))
       unfolding inner
@@ -99,11 +99,11 @@ module _ (up : Bool) (N n : ℕ) (cs ds : List ℕ) (j : ℕ) (plus minus : List
           rw (
             value_compose (top a b) (scale B (piece N a b j plus).1) (j * 1) fits_top fits_bottom m us i.u i.v fits-us,
             e,
-            value-scale_by (j * 1) B (piece N a b j plus).1 i.u i.v,
+            value_scale_by (j * 1) B (piece N a b j plus).1 i.u i.v,
             denominator_piece i j plus,
             ← mul_assoc B (d ^ j) (i.k ^ j),
           )
-          (value-scale m us z (B * d ^ j) (i.k ^ j) fits-us)
+          (value_scale m us z (B * d ^ j) (i.k ^ j) fits-us)
 
       -- a polynomial of degree n times us(t)
       value-product : (es : List ℕ) → length es ≤ suc n → (z : ℕ) → value (j * 1) (top a b) i.u i.v ≡ z * i.k ^ j →
@@ -122,7 +122,7 @@ module _ (up : Bool) (N n : ℕ) (cs ds : List ℕ) (j : ℕ) (plus minus : List
       value-bound : value (n * 1 + m * (j * 1)) (scale (B ^ m) (piece N a b (n + m * j) bs).0) i.u i.v ≡ B ^ m * value (n + m * j) bs x d * i.k ^ (n + m * j)
       value-bound =
           let e : n * 1 + m * (j * 1) ≡ (n + m * j) * 1 = omega arith in
-          rw (e, value-scale_by ((n + m * j) * 1) (B ^ m) (piece N a b (n + m * j) bs).0 i.u i.v, value_piece i (n + m * j) bs fits-bs)
+          rw (e, value_scale_by ((n + m * j) * 1) (B ^ m) (piece N a b (n + m * j) bs).0 i.u i.v, value_piece i (n + m * j) bs fits-bs)
           (sym (mul_assoc (B ^ m) (value (n + m * j) bs x d) (i.k ^ (n + m * j))))
 
       value-sum : (z : ℕ) → value (j * 1) (top a b) i.u i.v ≡ z * i.k ^ j →
@@ -140,7 +140,7 @@ module _ (up : Bool) (N n : ℕ) (cs ds : List ℕ) (j : ℕ) (plus minus : List
         let signs = dominated (piece N a b j minus).0 (piece N a b j plus).0 in
         let rest = and_r (ltb a b) (signs && ordered up left right) t in
         let i = inside N a b x d pos (ltb→lt a b (and_l (ltb a b) (signs && ordered up left right) t)) low high in
-        let (z, sum, at_top) = value-top i (and_l signs (ordered up left right) rest) in
+        let (z, sum, at_top) = value_top i (and_l signs (ordered up left right) rest) in
         record {
           z = z;
           at_z = sum;

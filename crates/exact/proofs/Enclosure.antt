@@ -27,8 +27,8 @@ pub record Below (m : ℕ) (us : List ℕ) (K : ℕ) : Type 0 where
 
 module _ (b c r m K : ℕ) (us : List ℕ) (unit : 0 < K) (cpos : 0 < c) (fits : length us ≤ m) where
   -- a list that outgrows 2 ^ t
-  pub is-above : T (fast b c r K us) → Above m (K ∷ us) K
-  is-above t = record { unit = unit; fits = suc-le-suc fits; bound = λ p q qpos small. above b c r K us m fits p q cpos qpos unit small t }
+  pub is_above_lem : T (fast b c r K us) → Above m (K ∷ us) K
+  is_above_lem t = record { unit = unit; fits = suc-le-suc fits; bound = λ p q qpos small. above b c r K us m fits p q cpos qpos unit small t }
 
   -- a list that lags behind 2 ^ t
   pub is_below : b < c → T (slow b c r K us) → Below m (K ∷ us) K

@@ -5,15 +5,15 @@ use native.Mathlib.Omega.{arith}
 use Rattle.exact.specs.Series.{partial, denominator}
 use Rattle.exact.specs.Exponential.{every, powers, ExpAtMost, ExpAtLeast}
 use Rattle.exact.proofs.Series.{over_pos, partial_grows, partial_tail, small_terms}
-use Rattle.exact.proofs.Natural.{every-most}
+use Rattle.exact.proofs.Natural.{every_most}
 
 -- every partial sum is at least 1
-pub powers-least : (p q n : ℕ) → denominator q n ≤ powers p q n
+pub powers_least : (p q n : ℕ) → denominator q n ≤ powers p q n
 unfolding partial denominator every
-powers-least p q n = omega (arith, partial_grows every p q 0 n (omega arith))
+powers_least p q n = omega (arith, partial_grows every p q 0 n (omega arith))
 
 pub powers_pos : (p q n : ℕ) → 0 < q → 0 < powers p q n
-powers_pos p q n pos = le_trans (over_pos q n pos) (powers-least p q n)
+powers_pos p q n pos = le_trans (over_pos q n pos) (powers_least p q n)
 
 -- ---- smaller fractions
 
@@ -66,7 +66,7 @@ module _ (d p m q : ℕ) (per : 0 < d) (root : 0 < q) where
   bounded : (k : ℕ) → first ≤ k → powers p q k ≤ C * denominator q k
   bounded k l =
       le_trans (le-mul_of_pos_right (powers p q k) (over_pos q first root))
-      (partial_tail every every-most p q first k ((small_terms p q 1 root).halve first (omega arith)) l)
+      (partial_tail every every_most p q first k ((small_terms p q 1 root).halve first (omega arith)) l)
 
   -- an order from which on both sums hardly grow
   abbrev n : ℕ
@@ -91,11 +91,11 @@ module _ (d p m q : ℕ) (per : 0 < d) (root : 0 < q) where
   upos : 0 < U
   upos = omega (arith, powers_pos m q n root)
 
-  not-above : l * U ≤ d * powers p q n
-  not-above = div-mul-le_self (d * powers p q n) U
+  not_above : l * U ≤ d * powers p q n
+  not_above = div-mul-le_self (d * powers p q n) U
 
-  not-below : d * powers p q n < l * U + U
-  not-below = lt-div-mul-add upos
+  not_below : d * powers p q n < l * U + U
+  not_below = lt-div-mul-add upos
 
   pub between : (l : ℕ) × ExpAtMost l d p m q × ExpAtLeast (l + 2) d p m q
   between = (
@@ -105,7 +105,7 @@ module _ (d p m q : ℕ) (per : 0 < d) (root : 0 < q) where
   )
     where
       few : l ≤ d * C
-      few = le_of_mul-le-mul_right (through (powers p q n) (powers m q n) (m ^ n) (denominator q n) l not-above (bounded n late_first) (powers-least m q n)) upos
+      few = le_of_mul-le-mul_right (through (powers p q n) (powers m q n) (m ^ n) (denominator q n) l not_above (bounded n late_first) (powers_least m q n)) upos
         where
           through : (F E M D l : ℕ) → l * (E + M) ≤ d * F → F ≤ C * D → D ≤ E → l * (E + M) ≤ d * C * (E + M)
           through F E M D l h g e = omega (arith, mul-le-mul_left d g, mul-le-mul_left (d * C) e)
@@ -113,8 +113,8 @@ module _ (d p m q : ℕ) (per : 0 < d) (root : 0 < q) where
       under : (k : ℕ) → n ≤ k → l * powers m q k ≤ powers p q k * d
       under k h =
           le_of_mul-le-mul_right
-          (through l (powers p q n) (powers m q n + m ^ n) (powers p q k) (powers m q k) (denominator q n) (denominator q k) not-above
-          (partial_tail every every-most m q n k ((small_terms m q (2 * (d * C + 1)) root).halve n late_minus) h) (partial_grows every p q n k h))
+          (through l (powers p q n) (powers m q n + m ^ n) (powers p q k) (powers m q k) (denominator q n) (denominator q k) not_above
+          (partial_tail every every_most m q n k ((small_terms m q (2 * (d * C + 1)) root).halve n late_minus) h) (partial_grows every p q n k h))
           (one-le-mul (over_pos q n root) (over_pos q k root))
         where
           through : (l F U F' E' D D' : ℕ) → l * U ≤ d * F → E' * D ≤ U * D' → F * D' ≤ F' * D → l * E' * (D * D') ≤ F' * d * (D * D')
@@ -124,11 +124,11 @@ module _ (d p m q : ℕ) (per : 0 < d) (root : 0 < q) where
       over k h =
           le_of_mul-le-mul_right
           (through (l + 2) (powers p q n + p ^ n) (powers m q n) (powers p q k) (powers m q k) (denominator q n) (denominator q k) enough
-          (partial_tail every every-most p q n k ((small_terms p q (2 * d) root).halve n late_plus) h) (partial_grows every m q n k h))
+          (partial_tail every every_most p q n k ((small_terms p q (2 * d) root).halve n late_plus) h) (partial_grows every m q n k h))
           (one-le-mul (over_pos q n root) (over_pos q k root))
         where
           enough : d * (powers p q n + p ^ n) ≤ (l + 2) * powers m q n
-          enough = added (powers p q n) (powers m q n) (m ^ n) (p ^ n) (denominator q n) l not-below few ((small_terms p q (2 * d) root).small n late_plus) ((small_terms m q (2 * (d * C + 1)) root).small n late_minus) (powers-least m q n)
+          enough = added (powers p q n) (powers m q n) (m ^ n) (p ^ n) (denominator q n) l not_below few ((small_terms p q (2 * d) root).small n late_plus) ((small_terms m q (2 * (d * C + 1)) root).small n late_minus) (powers_least m q n)
             where
               added : (F E M Q D l : ℕ) → d * F < l * (E + M) + (E + M) → l ≤ d * C → 2 * d * Q ≤ D → 2 * (d * C + 1) * M ≤ D → D ≤ E → d * (F + Q) ≤ (l + 2) * E
               added F E M Q D l a b c e f = omega (arith, mul-le-mul_right M b)

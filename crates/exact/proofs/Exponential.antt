@@ -8,8 +8,8 @@ use Rattle.exact.specs.Series.{partial, denominator}
 use Rattle.exact.specs.Power.{AtMost, AtLeast}
 use Rattle.exact.specs.Exponential.{every, powers}
 use Rattle.exact.proofs.Power.{mul-pow}
-use Rattle.exact.proofs.Series.{over_pos, over_scale, partial-scale, partial-zero, partial_grows}
-use Rattle.exact.proofs.Addition.{square, sum-least, square-most}
+use Rattle.exact.proofs.Series.{over_pos, over_scale, partial_scale, partial-zero, partial_grows}
+use Rattle.exact.proofs.Addition.{square, sum_least, square_most}
 
 -- ---- fractions in order: a / b ≤ c / d is a d ≤ c b
 through : (a b c d e f : ℕ) → 0 < d → a * d ≤ c * b → c * f ≤ e * d → a * f ≤ e * b
@@ -41,12 +41,12 @@ module _ (q : ℕ) (pos : 0 < q) where
   D n = denominator q n
 
   -- e ^ (s + t) ≤ e ^ s e ^ t
-  sum-most : (p r n : ℕ) → powers (p + r) q n * D n ≤ powers p q n * powers r q n
-  sum-most p r n = rw (product p r q n) at (sum-least every p r q pos n)
+  sum_most : (p r n : ℕ) → powers (p + r) q n * D n ≤ powers p q n * powers r q n
+  sum_most p r n = rw (product p r q n) at (sum_least every p r q pos n)
 
   -- e ^ s e ^ t ≤ e ^ (s + t), with twice the order
-  product-most : (p r n : ℕ) → powers p q n * powers r q n * D (n + n) ≤ powers (p + r) q (n + n) * (D n * D n)
-  product-most p r n = rw (product p r q n) at (square-most every p r q n)
+  product_most : (p r n : ℕ) → powers p q n * powers r q n * D (n + n) ≤ powers (p + r) q (n + n) * (D n * D n)
+  product_most p r n = rw (product p r q n) at (square_most every p r q n)
 
   -- e ^ 0
   at_zero : (n : ℕ) → powers 0 q n ≡ D n
@@ -56,7 +56,7 @@ module _ (q : ℕ) (pos : 0 < q) where
   -- e ^ (u t) ≤ (e ^ t) ^ u
   multiple_most : (p n u : ℕ) → powers (u * p) q n * D n ^ u ≤ powers p q n ^ u * D n
   multiple_most p n zero = rw (zero-mul p, at_zero n, pow-zero, pow-zero) (omega arith)
-  multiple_most p n (suc u) = rw (pow-suc, pow-suc, split) (joined (powers (u * p + p) q n) (powers (u * p) q n) (powers p q n) (D n ^ u) (powers p q n ^ u) (D n) (sum-most (u * p) p n) (multiple_most p n u))
+  multiple_most p n (suc u) = rw (pow-suc, pow-suc, split) (joined (powers (u * p + p) q n) (powers (u * p) q n) (powers p q n) (D n ^ u) (powers p q n ^ u) (D n) (sum_most (u * p) p n) (multiple_most p n u))
     where
       split : suc u * p ≡ u * p + p
       split = omega arith
@@ -82,7 +82,7 @@ module _ (q : ℕ) (pos : 0 < q) where
             (times (powers p q n ^ u) (D n ^ u) (powers (u * p) q m) (D m) (powers p q n) (D n) (powers p q m) (D m)
             (through (powers p q n ^ u) (D n ^ u) (powers (u * p) q r.order) (D r.order) (powers (u * p) q m) (D m) (over_pos q r.order pos) r.holds (partial_grows every (u * p) q r.order m (le-max_left r.order n)))
             (partial_grows every p q n m (le-max_right r.order n)))
-            (product-most (u * p) p m));
+            (product_most (u * p) p m));
       }
     where
       split : suc u * p ≡ u * p + p
@@ -101,7 +101,7 @@ grown a b q (suc n) h = more (mul-le-mul_right (suc n * q) (grown a b q n h)) (p
 pub argument_order : (p q p' q' n : ℕ) → 0 < q → 0 < q' → p * q' ≤ p' * q → powers p q n * denominator q' n ≤ powers p' q' n * denominator q n
 argument_order p q p' q' n pos pos' h =
     le_of_mul-le-mul_right
-    (crossed (powers p q n) (powers p' q' n) (denominator q n) (denominator q' n) (q ^ n) (q' ^ n) (rw (partial-scale every p q q' n, mul_comm q q', partial-scale every p' q' q n) at (grown (p * q') (p' * q) (q * q') n h)) same)
+    (crossed (powers p q n) (powers p' q' n) (denominator q n) (denominator q' n) (q ^ n) (q' ^ n) (rw (partial_scale every p q q' n, mul_comm q q', partial_scale every p' q' q n) at (grown (p * q') (p' * q) (q * q') n h)) same)
     (one-le-mul (one-le-pow n q pos) (one-le-pow n q' pos'))
   where
     same : denominator q n * q' ^ n ≡ denominator q' n * q ^ n
@@ -117,14 +117,14 @@ module _ (L W : ℕ) (wpos : 0 < W) (u v : ℕ) (vpos : 0 < v) where
 
   -- v times L u / (W v) is u L / W
   whole : (m : ℕ) → powers (v * (L * u)) (W * v) m ≡ powers (u * L) W m * v ^ m
-  whole m = ap (λ (x : ℕ). powers x (W * v) m) (turned L u v) ∙ partial-scale every (u * L) W v m
+  whole m = ap (λ (x : ℕ). powers x (W * v) m) (turned L u v) ∙ partial_scale every (u * L) W v m
     where
       turned : (x y z : ℕ) → z * (x * y) ≡ y * x * z
       turned x y z = omega arith
 
   -- where e ^ (L / W) is at most 2, e ^ (L u / (W v)) is at most 2 ^ (u / v)
-  pub two-most : ((m : ℕ) → powers L W m ≤ 2 * denominator W m) → (n : ℕ) → AtMost (powers (L * u) (W * v) n) (denominator (W * v) n) u 0 v
-  two-most low n = record { per = over_pos (W * v) n qpos; root = vpos; holds = rw (pow-zero 2, mul-one) (le_of_mul-le-mul_right bounded (over_pos (W * v) r.order qpos)) }
+  pub two_most : ((m : ℕ) → powers L W m ≤ 2 * denominator W m) → (n : ℕ) → AtMost (powers (L * u) (W * v) n) (denominator (W * v) n) u 0 v
+  two_most low n = record { per = over_pos (W * v) n qpos; root = vpos; holds = rw (pow-zero 2, mul-one) (le_of_mul-le-mul_right bounded (over_pos (W * v) r.order qpos)) }
     where
       r : Reaches (W * v) qpos (L * u) n v
       r = multiple_least (W * v) qpos (L * u) n v
@@ -151,8 +151,8 @@ module _ (L W : ℕ) (wpos : 0 < W) (u v : ℕ) (vpos : 0 < v) where
     pub from : ℕ
     pub holds : (n : ℕ) → from ≤ n → AtLeast (powers (L * u) (W * v) n) (denominator (W * v) n) u 0 v
 
-  pub two-least : (k : ℕ) → 2 * denominator W k ≤ powers L W k → TwoLeast
-  two-least k high = record {
+  pub two_least : (k : ℕ) → 2 * denominator W k ≤ powers L W k → TwoLeast
+  two_least k high = record {
     from = o;
     holds = λ n l. record {
       per = over_pos (W * v) n qpos;

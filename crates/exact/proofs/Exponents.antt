@@ -5,7 +5,7 @@ use mathlib.Core.Path.{sym}
 use Rattle.exact.specs.Power.{AtMost, AtLeast, LessThan, MoreThan}
 use Rattle.exact.proofs.Power.{least_pos, most_of_less, most_of_larger, least_of_smaller}
 use Rattle.exact.proofs.Ratio.{exponents}
-use Rattle.exact.proofs.Strict.{less-most, more-least, not_both}
+use Rattle.exact.proofs.Strict.{less_most, more_least, not_both}
 
 -- what is not at least is less
 pub less_of_not : {n d p m q : ℕ} → 0 < d → 0 < q → (AtLeast n d p m q → ⊥) → LessThan n d p m q
@@ -30,8 +30,8 @@ pub more_of_smaller : {n d p m q p' m' q' : ℕ} → 0 < q' → p' * q + m * q' 
 more_of_smaller pos less h = more_of_not h.per pos (λ l. not-le_of_lt less (exponents h l))
 
 -- what is less than 2 ^ e is less than 2 ^ e', for e ≤ e'; with e = e', one number written in two ways
-pub less-larger : {n d p m q p' m' q' : ℕ} → 0 < q' → p * q' + m' * q ≤ p' * q + m * q' → LessThan n d p m q → LessThan n d p' m' q'
-less-larger pos h l = less_of_not l.per pos (λ g. not_least l (least_of_smaller l.root h g))
+pub less_larger : {n d p m q p' m' q' : ℕ} → 0 < q' → p * q' + m' * q ≤ p' * q + m * q' → LessThan n d p m q → LessThan n d p' m' q'
+less_larger pos h l = less_of_not l.per pos (λ g. not_least l (least_of_smaller l.root h g))
 
 -- what is more than 2 ^ e is more than 2 ^ e', for e' ≤ e
 pub more_smaller : {n d p m q p' m' q' : ℕ} → 0 < q' → p' * q + m * q' ≤ p * q' + m' * q → MoreThan n d p m q → MoreThan n d p' m' q'
@@ -42,7 +42,7 @@ over p m p' m' q h = le_trans (le_of_eq (sym (add-mul p m' q))) (le_trans (mul-l
 
 -- the same over one denominator
 pub less_wider : {n d p m q p' m' : ℕ} → p + m' ≤ p' + m → LessThan n d p m q → LessThan n d p' m' q
-less_wider {p} {m} {q} {p'} {m'} h l = less-larger l.root (over p m p' m' q h) l
+less_wider {p} {m} {q} {p'} {m'} h l = less_larger l.root (over p m p' m' q h) l
 
 pub more_narrower : {n d p m q p' m' : ℕ} → p' + m ≤ p + m' → MoreThan n d p m q → MoreThan n d p' m' q
 more_narrower {p} {m} {q} {p'} {m'} h l = more_smaller l.root (over p' m' p m q h) l
@@ -51,7 +51,7 @@ more_narrower {p} {m} {q} {p'} {m'} h l = more_smaller l.root (over p' m' p m q 
 
 -- d / n is less than 2 ^ -e where n / d is more than 2 ^ e
 pub less_mirrored : {n d p m q : ℕ} → MoreThan n d p m q → LessThan d n m p q
-less_mirrored {n} {d} {p} {m} {q} l = record { per = least_pos (more-least l); root = l.root; holds = rw (mul_comm (d ^ q), mul_comm (2 ^ m)) l.holds }
+less_mirrored {n} {d} {p} {m} {q} l = record { per = least_pos (more_least l); root = l.root; holds = rw (mul_comm (d ^ q), mul_comm (2 ^ m)) l.holds }
 
 -- and more where it is less
 pub more_mirrored : {n d p m q : ℕ} → 0 < n → LessThan n d p m q → MoreThan d n m p q
@@ -61,4 +61,4 @@ more_mirrored {n} {d} {p} {m} {q} pos l = record { per = pos; root = l.root; hol
 
 -- n / d < 2 ^ e < n' / d
 pub between : {n n' d p m q : ℕ} → LessThan n d p m q → MoreThan n' d p m q → n < n'
-between {d} l m = lt_of_not-le (λ h. not_both (most_of_less l.per (mul-le-mul_right d h) (less-most l)) m)
+between {d} l m = lt_of_not-le (λ h. not_both (most_of_less l.per (mul-le-mul_right d h) (less_most l)) m)

@@ -41,16 +41,16 @@ scale k [] = []
 scale k (a ∷ cs) = (k * a) ∷ scale k cs
 
 -- its value
-pub value-scale_by : (n k : ℕ) (cs : List ℕ) (x d : ℕ) → value n (scale k cs) x d ≡ k * value n cs x d
+pub value_scale_by : (n k : ℕ) (cs : List ℕ) (x d : ℕ) → value n (scale k cs) x d ≡ k * value n cs x d
 unfolding value scale
-value-scale_by n k [] x d = omega arith
-value-scale_by n k (a ∷ cs) x d = rw (value-scale_by (pred n) k cs x d) (omega arith)
+value_scale_by n k [] x d = omega arith
+value_scale_by n k (a ∷ cs) x d = rw (value_scale_by (pred n) k cs x d) (omega arith)
 
 -- its length
-pub length-scale : (k : ℕ) (cs : List ℕ) → length (scale k cs) ≡ length cs
+pub length_scale : (k : ℕ) (cs : List ℕ) → length (scale k cs) ≡ length cs
 unfolding scale
-length-scale k [] = refl
-length-scale k (a ∷ cs) = ap suc (length-scale k cs)
+length_scale k [] = refl
+length_scale k (a ∷ cs) = ap suc (length_scale k cs)
 
 -- ---- order
 
@@ -123,10 +123,10 @@ mul (a ∷ cs) bs = add (scale a bs) (0 ∷ mul cs bs)
 pub length-mul : (n m : ℕ) (cs bs : List ℕ) → length cs ≤ suc n → length bs ≤ suc m → length (mul cs bs) ≤ suc (n + m)
 unfolding mul
 length-mul n m [] bs h l = omega arith
-length-mul n m (a ∷ []) bs h l = length-add (suc (n + m)) (scale a bs) (0 ∷ []) (rw length-scale (omega arith)) (omega arith)
+length-mul n m (a ∷ []) bs h l = length-add (suc (n + m)) (scale a bs) (0 ∷ []) (rw length_scale (omega arith)) (omega arith)
 length-mul zero m (a ∷ b ∷ cs) bs h l = absurd (omega arith)
 length-mul (suc n) m (a ∷ b ∷ cs) bs h l =
-    length-add (suc (suc n + m)) (scale a bs) (0 ∷ mul (b ∷ cs) bs) (rw length-scale (omega arith)) (rw suc-add (suc-le-suc (length-mul n m (b ∷ cs) bs (le_of_suc-le-suc h) l)))
+    length-add (suc (suc n + m)) (scale a bs) (0 ∷ mul (b ∷ cs) bs) (rw length_scale (omega arith)) (rw suc-add (suc-le-suc (length-mul n m (b ∷ cs) bs (le_of_suc-le-suc h) l)))
 
 value_shift : (n : ℕ) (cs : List ℕ) (x d : ℕ) → value (suc n) (0 ∷ cs) x d ≡ x * value n cs x d
 unfolding value
@@ -136,10 +136,10 @@ value_shift n cs x d = omega arith
 pub value-mul : (n m : ℕ) (cs bs : List ℕ) (x d : ℕ) → length cs ≤ suc n → length bs ≤ suc m → value (n + m) (mul cs bs) x d ≡ value n cs x d * value m bs x d
 unfolding mul value
 value-mul n m [] bs x d h l = omega arith
-value-mul n m (a ∷ []) bs x d h l = rw (value-add, value-scale_by, value_raise n m bs x d l) (omega arith)
+value-mul n m (a ∷ []) bs x d h l = rw (value-add, value_scale_by, value_raise n m bs x d l) (omega arith)
 value-mul zero m (a ∷ b ∷ cs) bs x d h l = absurd (omega arith)
 value-mul (suc n) m (a ∷ b ∷ cs) bs x d h l =
-    rw (value-add, value-scale_by, value_raise (suc n) m bs x d l, suc-add n m, value_shift (n + m) (mul (b ∷ cs) bs) x d, value-mul n m (b ∷ cs) bs x d (le_of_suc-le-suc h) l)
+    rw (value-add, value_scale_by, value_raise (suc n) m bs x d l, suc-add n m, value_shift (n + m) (mul (b ∷ cs) bs) x d, value-mul n m (b ∷ cs) bs x d (le_of_suc-le-suc h) l)
     (through (d ^ suc n) (value m bs x d) (value n (b ∷ cs) x d))
   where
     through : (D F G : ℕ) → a * (D * F) + x * (G * F) ≡ (a * D + x * G) * F
@@ -157,10 +157,10 @@ unfoldable pub rest : List ℕ → List ℕ
 rest [] = []
 rest (c ∷ cs) = cs
 
-value-first : (n : ℕ) (cs : List ℕ) (x d : ℕ) → value (suc n) cs x d ≡ first cs * d ^ suc n + x * value n (rest cs) x d
+value_first : (n : ℕ) (cs : List ℕ) (x d : ℕ) → value (suc n) cs x d ≡ first cs * d ^ suc n + x * value n (rest cs) x d
 unfolding value first rest
-value-first n [] x d = omega arith
-value-first n (c ∷ cs) x d = refl
+value_first n [] x d = omega arith
+value_first n (c ∷ cs) x d = refl
 
 length_rest : (n : ℕ) (cs : List ℕ) → length cs ≤ suc n → length (rest cs) ≤ n
 unfolding rest
@@ -197,7 +197,7 @@ module _ (X D : List ℕ) (m : ℕ) (fits-X : length X ≤ suc m) (fits-D : leng
   length_compose zero cs fits = omega arith
   length_compose (suc n) cs fits =
       length-add (suc (suc n * m)) (scale (first cs) (compose X D (suc n) cs).1) (mul X (compose X D n (rest cs)).0)
-      (rw length-scale (length-denominator (suc n) cs))
+      (rw length_scale (length-denominator (suc n) cs))
       (rw degree (length-mul m (n * m) X (compose X D n (rest cs)).0 fits-X (length_compose n (rest cs) (length_rest (suc n) cs fits))))
 
   -- the form is the polynomial at the fraction X / D
@@ -208,9 +208,9 @@ module _ (X D : List ℕ) (m : ℕ) (fits-X : length X ≤ suc m) (fits-D : leng
   value_compose zero (c ∷ e ∷ cs) u v fits = absurd (omega arith)
   value_compose (suc n) cs u v fits =
       rw (
-        value-first n cs (value m X u v) (value m D u v),
+        value_first n cs (value m X u v) (value m D u v),
         value-add (suc n * m) (scale (first cs) (compose X D (suc n) cs).1) (mul X (compose X D n (rest cs)).0) u v,
-        value-scale_by (suc n * m) (first cs) (compose X D (suc n) cs).1 u v,
+        value_scale_by (suc n * m) (first cs) (compose X D (suc n) cs).1 u v,
         value-denominator (suc n) cs u v,
         degree n,
         value-mul m (n * m) X (compose X D n (rest cs)).0 u v fits-X (length_compose n (rest cs) (length_rest (suc n) cs fits)),

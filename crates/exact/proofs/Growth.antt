@@ -14,7 +14,7 @@ use lib.Ieee.Fits.{and_l, and_r}
 use Rattle.exact.specs.Power.{AtMost, AtLeast}
 use Rattle.exact.specs.Polynomial.{value}
 use Rattle.exact.proofs.Power.{mul-pow, pow-one, one-pow, pow-two, pow-mul, pow_swap, products-pow}
-use Rattle.exact.proofs.Polynomial.{value-scale}
+use Rattle.exact.proofs.Polynomial.{value_scale}
 
 -- ---- Bernoulli's inequality
 
@@ -176,12 +176,12 @@ module _ (b c a : ℕ) (cs : List ℕ) (n : ℕ) (fits : length cs ≤ n) where
 
 -- steps of 1 / (q s) to p / q; what is known of the numbers over q s is known of those over q
 module _ (a : ℕ) (cs : List ℕ) (n : ℕ) (fits : length cs ≤ n) (p q s : ℕ) where
-  at-start : value n (a ∷ cs) 0 (q * s) ≡ a * q ^ n * s ^ n
+  at_start : value n (a ∷ cs) 0 (q * s) ≡ a * q ^ n * s ^ n
   unfolding value
-  at-start = rw (mul-pow q s n) (omega arith)
+  at_start = rw (mul-pow q s n) (omega arith)
 
   at_end : value n (a ∷ cs) (p * s) (q * s) ≡ value n (a ∷ cs) p q * s ^ n
-  at_end = value-scale n (a ∷ cs) p q s (suc-le-suc fits)
+  at_end = value_scale n (a ∷ cs) p q s (suc-le-suc fits)
 
   cancel : (X Y A F : ℕ) → 0 < s → X * (A * s ^ n) ≤ Y * (F * s ^ n) → X * A ≤ Y * F
   cancel X Y A F pos h = le_of_mul-le-mul_right (rw (mul_assoc X A (s ^ n), mul_assoc Y F (s ^ n)) h) (one-le-pow n s pos)
@@ -229,7 +229,7 @@ module _ (b c r a : ℕ) (cs : List ℕ) (n : ℕ) (fits : length cs ≤ n) (p q
       compounded : (c * 2 ^ r * q + b) ^ (p * 2 ^ r) * (a * q ^ n) ≤ (c * 2 ^ r * q) ^ (p * 2 ^ r) * value n (a ∷ cs) p q
       compounded =
           cancel a cs n fits p q (2 ^ r) ((c * 2 ^ r * q + b) ^ (p * 2 ^ r)) ((c * 2 ^ r * q) ^ (p * 2 ^ r)) (a * q ^ n) (value n (a ∷ cs) p q) (pow_pos r)
-          (rw (← at-start a cs n fits p q (2 ^ r), ← at_end a cs n fits p q (2 ^ r), ← order)
+          (rw (← at_start a cs n fits p q (2 ^ r), ← at_end a cs n fits p q (2 ^ r), ← order)
           (up b c a cs n fits (and_l grows doubles t) (q * 2 ^ r) (p * 2 ^ r) (mul-le-mul_right (2 ^ r) small)))
 
   -- P(p / q) ≤ 2 ^ (p / q) P(0)
@@ -262,5 +262,5 @@ module _ (b c r a : ℕ) (cs : List ℕ) (n : ℕ) (fits : length cs ≤ n) (p q
       compounded : (c * 2 ^ r * q - b) ^ (p * 2 ^ r) * value n (a ∷ cs) p q ≤ (c * 2 ^ r * q) ^ (p * 2 ^ r) * (a * q ^ n)
       compounded =
           cancel a cs n fits p q (2 ^ r) ((c * 2 ^ r * q - b) ^ (p * 2 ^ r)) ((c * 2 ^ r * q) ^ (p * 2 ^ r)) (value n (a ∷ cs) p q) (a * q ^ n) (pow_pos r)
-          (rw (← at-start a cs n fits p q (2 ^ r), ← at_end a cs n fits p q (2 ^ r), ← order)
+          (rw (← at_start a cs n fits p q (2 ^ r), ← at_end a cs n fits p q (2 ^ r), ← order)
           (down b c a cs n fits (and_l behind small t) (q * 2 ^ r) (p * 2 ^ r) (c * (q * 2 ^ r) - b) (rw order (sub-add_cancel (le_of_lt wide)))))

@@ -5,14 +5,14 @@ use native.Mathlib.Nat.{add-zero, zero-add, mul_comm, mul-le-mul_left, mul-le-mu
 use native.Mathlib.Omega.{arith}
 use Rattle.exact.specs.Series.{partial, denominator, fourth, LimitNear}
 use Rattle.exact.specs.Circle.{Cosine, Sine, signed, bound}
-use Rattle.exact.proofs.Series.{over_scale, partial-scale, partial-zero}
+use Rattle.exact.proofs.Series.{over_scale, partial_scale, partial-zero}
 use Rattle.exact.proofs.Within.{Within}
 
 -- ---- one limit
 
 -- the limit of G - F is near N - P
-pub near-minus : {F G D : ℕ → ℕ} {P N U a b : ℕ} → LimitNear F G D P N U a b → LimitNear G F D N P U a b
-near-minus h = record { from = h.from; least = h.most; most = h.least }
+pub near_minus : {F G D : ℕ → ℕ} {P N U a b : ℕ} → LimitNear F G D P N U a b → LimitNear G F D N P U a b
+near_minus h = record { from = h.from; least = h.most; most = h.least }
 
 -- within a / b, so within what is more
 pub near_wider : {F G D : ℕ → ℕ} {P N U a b a' b' : ℕ} → 0 < b → a * b' ≤ a' * b → LimitNear F G D P N U a b → LimitNear F G D P N U a' b'
@@ -50,9 +50,9 @@ near_times {P} {N} {U} {a} {b} K f g d h = record {
     side P N D G F K x = omega (arith, mul-le-mul_right K x)
 
 -- and without
-near-part : {F G D F' G' D' : ℕ → ℕ} {P N U a b : ℕ} (K : ℕ → ℕ) → ((n : ℕ) → 0 < K n) → ((n : ℕ) → F' n ≡ F n * K n) → ((n : ℕ) → G' n ≡ G n * K n) → ((n : ℕ) → D' n ≡ D n * K n) →
+near_part : {F G D F' G' D' : ℕ → ℕ} {P N U a b : ℕ} (K : ℕ → ℕ) → ((n : ℕ) → 0 < K n) → ((n : ℕ) → F' n ≡ F n * K n) → ((n : ℕ) → G' n ≡ G n * K n) → ((n : ℕ) → D' n ≡ D n * K n) →
     LimitNear F' G' D' P N U a b → LimitNear F G D P N U a b
-near-part {P} {N} {U} {a} {b} K pos f g d h = record {
+near_part {P} {N} {U} {a} {b} K pos f g d h = record {
   from = h.from;
   least = λ n l. side P N _ _ _ (K n) (pos n) (rw (f n, g n, d n) at (h.least n l));
   most = λ n l. side N P _ _ _ (K n) (pos n) (rw (f n, g n, d n) at (h.most n l));
@@ -75,15 +75,15 @@ both_wider pos more h = record { cosine = near_wider pos more h.cosine; sine = n
 -- at p / q written with larger numbers
 pub both_scaled : {p q C C' S S' U a b : ℕ} (k : ℕ) → Both p q C C' S S' U a b → Both (p * k) (q * k) C C' S S' U a b
 both_scaled {p} {q} k h = record {
-  cosine = near_times (λ n. k ^ n) (partial-scale (fourth 0) p q k) (partial-scale (fourth 2) p q k) (over_scale q k) h.cosine;
-  sine = near_times (λ n. k ^ n) (partial-scale (fourth 1) p q k) (partial-scale (fourth 3) p q k) (over_scale q k) h.sine;
+  cosine = near_times (λ n. k ^ n) (partial_scale (fourth 0) p q k) (partial_scale (fourth 2) p q k) (over_scale q k) h.cosine;
+  sine = near_times (λ n. k ^ n) (partial_scale (fourth 1) p q k) (partial_scale (fourth 3) p q k) (over_scale q k) h.sine;
 }
 
 -- at p / q written with two numbers that have a common factor
 pub both_cancel : {p q C C' S S' U a b : ℕ} (k : ℕ) → 0 < k → Both (p * k) (q * k) C C' S S' U a b → Both p q C C' S S' U a b
 both_cancel {p} {q} k pos h = record {
-  cosine = near-part (λ n. k ^ n) (λ n. one-le-pow n k pos) (partial-scale (fourth 0) p q k) (partial-scale (fourth 2) p q k) (over_scale q k) h.cosine;
-  sine = near-part (λ n. k ^ n) (λ n. one-le-pow n k pos) (partial-scale (fourth 1) p q k) (partial-scale (fourth 3) p q k) (over_scale q k) h.sine;
+  cosine = near_part (λ n. k ^ n) (λ n. one-le-pow n k pos) (partial_scale (fourth 0) p q k) (partial_scale (fourth 2) p q k) (over_scale q k) h.cosine;
+  sine = near_part (λ n. k ^ n) (λ n. one-le-pow n k pos) (partial_scale (fourth 1) p q k) (partial_scale (fourth 3) p q k) (over_scale q k) h.sine;
 }
 
 -- at the same place written in another way
@@ -97,30 +97,30 @@ pub cosine_of_lem : {p m q C C' S S' U a b : ℕ} → Both (p + m) q C C' S S' U
 cosine_of_lem h = record { near = h.cosine }
 
 -- the sums of sine at zero
-first-zero : (q n : ℕ) → partial (fourth 1) 0 q n ≡ 0
+first_zero : (q n : ℕ) → partial (fourth 1) 0 q n ≡ 0
 unfolding fourth
-first-zero q n = rw partial-zero (omega arith)
+first_zero q n = rw partial-zero (omega arith)
 
-third-zero : (q n : ℕ) → partial (fourth 3) 0 q n ≡ 0
+third_zero : (q n : ℕ) → partial (fourth 3) 0 q n ≡ 0
 unfolding fourth
-third-zero q n = rw partial-zero (omega arith)
+third_zero q n = rw partial-zero (omega arith)
 
 -- sine of p / q
-pub sine-plus : {p q C C' S S' U a b : ℕ} → Both p q C C' S S' U a b → Sine (signed p 0 q) (signed S S' U) (bound a b)
-sine-plus {p} {q} h = record {
+pub sine_plus : {p q C C' S S' U a b : ℕ} → Both p q C C' S S' U a b → Sine (signed p 0 q) (signed S S' U) (bound a b)
+sine_plus {p} {q} h = record {
   near = record {
     from = h.sine.from;
-    least = λ n l. rw (first-zero q n, third-zero q n, add-zero, add-zero) (h.sine.least n l);
-    most = λ n l. rw (first-zero q n, third-zero q n, add-zero, add-zero) (h.sine.most n l);
+    least = λ n l. rw (first_zero q n, third_zero q n, add-zero, add-zero) (h.sine.least n l);
+    most = λ n l. rw (first_zero q n, third_zero q n, add-zero, add-zero) (h.sine.most n l);
   };
 }
 
 -- sine of - m / q
-pub sine-minus : {m q C C' S S' U a b : ℕ} → Both m q C C' S S' U a b → Sine (signed 0 m q) (signed S' S U) (bound a b)
-sine-minus {m} {q} h = record {
+pub sine_minus : {m q C C' S S' U a b : ℕ} → Both m q C C' S S' U a b → Sine (signed 0 m q) (signed S' S U) (bound a b)
+sine_minus {m} {q} h = record {
   near = record {
     from = h.sine.from;
-    least = λ n l. rw (first-zero q n, third-zero q n, zero-add, zero-add) (h.sine.most n l);
-    most = λ n l. rw (first-zero q n, third-zero q n, zero-add, zero-add) (h.sine.least n l);
+    least = λ n l. rw (first_zero q n, third_zero q n, zero-add, zero-add) (h.sine.most n l);
+    most = λ n l. rw (first_zero q n, third_zero q n, zero-add, zero-add) (h.sine.least n l);
   };
 }

@@ -7,7 +7,7 @@ use native.Mathlib.Numerals.{add-one}
 use native.Mathlib.Omega.{arith}
 use lib.ListN.{length}
 use Rattle.exact.specs.Polynomial.{value}
-use Rattle.exact.proofs.Forms.{add, scale, value-add, value-scale_by, value_raise, length-add, length-scale}
+use Rattle.exact.proofs.Forms.{add, scale, value-add, value_scale_by, value_raise, length-add, length_scale}
 use Rattle.exact.proofs.Power.{mul-pow, pow-one}
 
 -- Σ cᵢ (d - k y) ^ i (k d) ^ (n - i), as a form in y and d: what is added, and what is taken away
@@ -29,14 +29,14 @@ module _ (k : ℕ) where
       let (p, m) = length_mirror n cs in
       let P = (mirror k n cs).0 in
       let M = (mirror k n cs).1 in (
-        length-add (suc (suc n)) ((c * k ^ suc n) ∷ []) (add P (0 ∷ scale k M)) (omega arith) (length-add (suc (suc n)) P (0 ∷ scale k M) (omega arith) (rw length-scale (omega arith))),
-        length-add (suc (suc n)) M (0 ∷ scale k P) (omega arith) (rw length-scale (omega arith)),
+        length-add (suc (suc n)) ((c * k ^ suc n) ∷ []) (add P (0 ∷ scale k M)) (omega arith) (length-add (suc (suc n)) P (0 ∷ scale k M) (omega arith) (rw length_scale (omega arith))),
+        length-add (suc (suc n)) M (0 ∷ scale k P) (omega arith) (rw length_scale (omega arith)),
       )
 
   -- a form times d, and k times a form times y
   both : (n : ℕ) (f g : List ℕ) (y d : ℕ) → length f ≤ suc n → value (suc n) (add f (0 ∷ scale k g)) y d ≡ d * value n f y d + k * (y * value n g y d)
   unfolding value
-  both n f g y d fits = rw (value-add (suc n) f (0 ∷ scale k g) y d, raised, value-scale_by n k g y d) (omega arith)
+  both n f g y d fits = rw (value-add (suc n) f (0 ∷ scale k g) y d, raised, value_scale_by n k g y d) (omega arith)
     where
       raised : value (suc n) f y d ≡ d * value n f y d
       raised = rw (← add-one n, add_comm n 1, value_raise 1 n f y d fits, pow-one d) refl

@@ -10,7 +10,7 @@ use Rattle.exact.specs.Power.{AtMost, AtLeast}
 use Rattle.exact.specs.Exponential.{every, powers}
 use Rattle.exact.proofs.Power.{most_of_less, least_of_more}
 use Rattle.exact.proofs.Series.{over_pos, partial_grows, partial_tail}
-use Rattle.exact.proofs.Exponential.{argument_order, two-most, two-least}
+use Rattle.exact.proofs.Exponential.{argument_order, two_most, two_least}
 
 -- the whole part of ln 2 times 2 ^ 96
 unfoldable pub ln_two : ℕ
@@ -24,9 +24,9 @@ pub ln_unit_pos : 0 < ln_unit
 unfolding ln_unit
 ln_unit_pos = pow_pos 96
 
-pub every-most : (k : ℕ) → every k ≤ 1
+pub every_most : (k : ℕ) → every k ≤ 1
 unfolding every
-every-most k = omega arith
+every_most k = omega arith
 
 -- thirty terms, and what may follow them
 settled : powers ln_two ln_unit 30 + ln_two ^ 30 ≤ 2 * denominator ln_unit 30
@@ -44,7 +44,7 @@ halves = lit≤ tt
 -- e ^ lnTwo is at most 2
 below_two : (m : ℕ) → powers ln_two ln_unit m ≤ 2 * denominator ln_unit m
 below_two m = elim (dec_le 30 m) [
-  | yes l ↦ le_of_mul-le-mul_right (later (powers ln_two ln_unit m) (powers ln_two ln_unit 30) (denominator ln_unit 30) (denominator ln_unit m) (ln_two ^ 30) settled (partial_tail every every-most ln_two ln_unit 30 m halves l)) (over_pos ln_unit 30 ln_unit_pos)
+  | yes l ↦ le_of_mul-le-mul_right (later (powers ln_two ln_unit m) (powers ln_two ln_unit 30) (denominator ln_unit 30) (denominator ln_unit m) (ln_two ^ 30) settled (partial_tail every every_most ln_two ln_unit 30 m halves l)) (over_pos ln_unit 30 ln_unit_pos)
   | no l ↦ le_of_mul-le-mul_right (sooner (powers ln_two ln_unit m) (powers ln_two ln_unit 30) (denominator ln_unit 30) (denominator ln_unit m) (ln_two ^ 30) settled (partial_grows every ln_two ln_unit m 30 (le_of_lt (lt_of_not-le l)))) (over_pos ln_unit 30 ln_unit_pos)
 ]
   where
@@ -58,10 +58,10 @@ below_two m = elim (dec_le 30 m) [
 module _ (p q u v : ℕ) (qpos : 0 < q) (vpos : 0 < v) where
   -- p / q is at most ln 2 times u / v
   pub exponential_most : p * (ln_unit * v) ≤ ln_two * u * q → (n : ℕ) → AtMost (powers p q n) (denominator q n) u 0 v
-  exponential_most h n = most_of_less (over_pos q n qpos) (argument_order p q (ln_two * u) (ln_unit * v) n qpos (one-le-mul ln_unit_pos vpos) h) (two-most ln_two ln_unit ln_unit_pos u v vpos below_two n)
+  exponential_most h n = most_of_less (over_pos q n qpos) (argument_order p q (ln_two * u) (ln_unit * v) n qpos (one-le-mul ln_unit_pos vpos) h) (two_most ln_two ln_unit ln_unit_pos u v vpos below_two n)
 
   -- it is at least that
   pub exponential_least : (ln_two + 1) * u * q ≤ p * (ln_unit * v) → (from : ℕ) × ((n : ℕ) → from ≤ n → AtLeast (powers p q n) (denominator q n) u 0 v)
   exponential_least h =
-      let r = two-least (ln_two + 1) ln_unit ln_unit_pos u v vpos 30 reached in
+      let r = two_least (ln_two + 1) ln_unit ln_unit_pos u v vpos 30 reached in
       (r.from, λ n l. least_of_more (over_pos q n qpos) (argument_order ((ln_two + 1) * u) (ln_unit * v) p q n (one-le-mul ln_unit_pos vpos) qpos h) (r.holds n l))

@@ -12,7 +12,7 @@ use lib.ListN.{length}
 use lib.Ieee.Fits.{and_l, and_r}
 use Rattle.exact.specs.Polynomial.{value}
 use Rattle.exact.proofs.Power.{mul-pow}
-use Rattle.exact.proofs.Polynomial.{value-scale, value_linear}
+use Rattle.exact.proofs.Polynomial.{value_scale, value_linear}
 use Rattle.exact.proofs.Forms.{compose, dominated, value_dominated, value_compose, value-denominator, length_compose, length-denominator}
 
 -- ---- many pieces
@@ -55,7 +55,7 @@ pub record Inside (N a b x d : ℕ) : Type 0 where
   pub k : ℕ
   pub pos : 0 < k
   pub at_x : a * v + b * u ≡ x * k
-  pub at-d : N * v + N * u ≡ d * k
+  pub at_d : N * v + N * u ≡ d * k
 
 -- every fraction of the piece is such
 pub inside : (N a b x d : ℕ) → 0 < N → a < b → a * d ≤ N * x → N * x ≤ b * d → Inside N a b x d
@@ -69,7 +69,7 @@ inside N a b x d pos less low high =
       k = N * w;
       pos = mul-pos pos (omega arith);
       at_x = omega (arith, ap (λ (n : ℕ). b * n) eu, ap (λ (n : ℕ). a * n) ev, ap (λ (n : ℕ). n * (N * x)) ew);
-      at-d = omega (arith, ap (λ (n : ℕ). N * n) eu, ap (λ (n : ℕ). N * n) ev, ap (λ (n : ℕ). n * (N * d)) ew);
+      at_d = omega (arith, ap (λ (n : ℕ). N * n) eu, ap (λ (n : ℕ). N * n) ev, ap (λ (n : ℕ). n * (N * d)) ew);
     }
 
 -- a polynomial of degree n as a form in u and v, and its denominator
@@ -82,12 +82,12 @@ module _ {N a b x d : ℕ} (i : Inside N a b x d) (n : ℕ) (cs : List ℕ) wher
   pub value_piece : length cs ≤ suc n → value (n * 1) (piece N a b n cs).0 i.u i.v ≡ value n cs x d * i.k ^ n
   unfolding piece
   value_piece fits =
-      rw (value_compose (a ∷ b ∷ []) (N ∷ N ∷ []) 1 (le_refl 2) (le_refl 2) n cs i.u i.v fits, value_linear, i.at_x, value_linear, i.at-d) (value-scale n cs x d i.k fits)
+      rw (value_compose (a ∷ b ∷ []) (N ∷ N ∷ []) 1 (le_refl 2) (le_refl 2) n cs i.u i.v fits, value_linear, i.at_x, value_linear, i.at_d) (value_scale n cs x d i.k fits)
 
   -- the denominator's value
   pub denominator_piece : value (n * 1) (piece N a b n cs).1 i.u i.v ≡ d ^ n * i.k ^ n
   unfolding piece
-  denominator_piece = rw (value-denominator (a ∷ b ∷ []) (N ∷ N ∷ []) 1 (le_refl 2) (le_refl 2) n cs i.u i.v, value_linear, i.at-d) (mul-pow d i.k n)
+  denominator_piece = rw (value-denominator (a ∷ b ∷ []) (N ∷ N ∷ []) 1 (le_refl 2) (le_refl 2) n cs i.u i.v, value_linear, i.at_d) (mul-pow d i.k n)
 
 -- the form's length
 pub length_piece : (N a b n : ℕ) (cs : List ℕ) → length cs ≤ suc n → length (piece N a b n cs).0 ≤ suc (n * 1)
@@ -118,5 +118,5 @@ module _ (N n : ℕ) (cs bs : List ℕ) (pos : 0 < N) (fits : length cs ≤ suc 
       (one-le-pow n i.k i.pos)
 
   -- the polynomial cs is at most bs from a / N to the last knot
-  pub below-sound : (a : ℕ) (es : List ℕ) → T (each (below N n cs bs) a es) → (x d : ℕ) → a * d ≤ N * x → N * x ≤ end a es * d → value n cs x d ≤ value n bs x d
-  below-sound = over N (below N n cs bs) (λ x d. value n cs x d ≤ value n bs x d) below_piece
+  pub below_sound : (a : ℕ) (es : List ℕ) → T (each (below N n cs bs) a es) → (x d : ℕ) → a * d ≤ N * x → N * x ≤ end a es * d → value n cs x d ≤ value n bs x d
+  below_sound = over N (below N n cs bs) (λ x d. value n cs x d ≤ value n bs x d) below_piece

@@ -10,12 +10,12 @@ use Rattle.exact.specs.Polynomial.{value}
 use Rattle.exact.proofs.Power.{mul-pow, pow-one}
 
 -- x / d written with larger numbers
-pub value-scale : (n : ℕ) (cs : List ℕ) (x d k : ℕ) → length cs ≤ suc n → value n cs (x * k) (d * k) ≡ value n cs x d * k ^ n
+pub value_scale : (n : ℕ) (cs : List ℕ) (x d k : ℕ) → length cs ≤ suc n → value n cs (x * k) (d * k) ≡ value n cs x d * k ^ n
 unfolding value
-value-scale n [] x d k fits = omega arith
-value-scale zero (c ∷ []) x d k fits = simp pow-zero (omega arith)
-value-scale zero (c ∷ e ∷ cs) x d k fits = absurd (omega arith)
-value-scale (suc n) (c ∷ cs) x d k fits = rw (mul-pow, pow-suc k n, value-scale n cs x d k (le_of_suc-le-suc fits)) (through (d ^ suc n) (value n cs x d) (k ^ n))
+value_scale n [] x d k fits = omega arith
+value_scale zero (c ∷ []) x d k fits = simp pow-zero (omega arith)
+value_scale zero (c ∷ e ∷ cs) x d k fits = absurd (omega arith)
+value_scale (suc n) (c ∷ cs) x d k fits = rw (mul-pow, pow-suc k n, value_scale n cs x d k (le_of_suc-le-suc fits)) (through (d ^ suc n) (value n cs x d) (k ^ n))
   where
     through : (D F K : ℕ) → c * (D * (K * k)) + x * k * (F * K) ≡ (c * D + x * F) * (K * k)
     through D F K = omega arith

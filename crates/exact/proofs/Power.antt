@@ -132,21 +132,21 @@ through_power {n} {d} {n'} {d'} {p} {m} {q} below above = le_of_pow-le q below.r
 -- ---- products
 
 -- n / d ≤ 2 ^ e and n' / d' ≤ 2 ^ e' give (n n') / (d d') ≤ 2 ^ (e + e'), over one denominator of the exponents
-pub most-mul : {n d n' d' p m p' m' q : ℕ} → AtMost n d p m q → AtMost n' d' p' m' q → AtMost (n * n') (d * d') (p + p') (m + m') q
-most-mul {n} {d} {n'} {d'} {p} {m} {p'} {m'} {q} h h' = record { per = one-le-mul h.per h'.per; root = h.root; holds = rw (mul-pow, mul-pow, pow-add 2 m m', pow-add 2 p p') both }
+pub most_mul : {n d n' d' p m p' m' q : ℕ} → AtMost n d p m q → AtMost n' d' p' m' q → AtMost (n * n') (d * d') (p + p') (m + m') q
+most_mul {n} {d} {n'} {d'} {p} {m} {p'} {m'} {q} h h' = record { per = one-le-mul h.per h'.per; root = h.root; holds = rw (mul-pow, mul-pow, pow-add 2 m m', pow-add 2 p p') both }
   where
     both : n ^ q * n' ^ q * (2 ^ m * 2 ^ m') ≤ 2 ^ p * 2 ^ p' * (d ^ q * d' ^ q)
     both = rw (mul-mul-mul_comm (n ^ q) (n' ^ q), mul-mul-mul_comm (2 ^ p) (2 ^ p')) (mul-le-mul h.holds h'.holds)
 
 -- 2 ^ e ≤ n / d and 2 ^ e' ≤ n' / d' give 2 ^ (e + e') ≤ (n n') / (d d')
-pub least-mul : {n d n' d' p m p' m' q : ℕ} → AtLeast n d p m q → AtLeast n' d' p' m' q → AtLeast (n * n') (d * d') (p + p') (m + m') q
-least-mul h h' = at_least (one-le-mul h.per h'.per) (most-mul (at_most h) (at_most h'))
+pub least_mul : {n d n' d' p m p' m' q : ℕ} → AtLeast n d p m q → AtLeast n' d' p' m' q → AtLeast (n * n') (d * d') (p + p') (m + m') q
+least_mul h h' = at_least (one-le-mul h.per h'.per) (most_mul (at_most h) (at_most h'))
 
 -- ---- whole powers of two
 
 -- n 2 ^ k / (d 2 ^ j) is at most 2 ^ (e + k - j) where n / d is at most 2 ^ e
 pub most_shift : {n d p m q : ℕ} (k j : ℕ) → AtMost n d p m q → AtMost (n * 2 ^ k) (d * 2 ^ j) (p + k * q) (m + j * q) q
-most_shift {q} k j h = most-mul h (record { per = pow_pos j; root = h.root; holds = le_of_eq (rw (pow-mul, pow-mul) refl) })
+most_shift {q} k j h = most_mul h (record { per = pow_pos j; root = h.root; holds = le_of_eq (rw (pow-mul, pow-mul) refl) })
 
 -- n 2 ^ k / (d 2 ^ j) is at least 2 ^ (e + k - j) where n / d is at least 2 ^ e
 pub least_shift : {n d p m q : ℕ} (k j : ℕ) → AtLeast n d p m q → AtLeast (n * 2 ^ k) (d * 2 ^ j) (p + k * q) (m + j * q) q

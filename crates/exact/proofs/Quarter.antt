@@ -7,7 +7,7 @@ use lib.Dec.{T, leb, leb→le}
 use lib.Pow.{pow_pos}
 use Rattle.exact.specs.Series.{partial, denominator, fourth}
 use Rattle.exact.specs.Circle.{quarter, quarter_unit}
-use Rattle.exact.proofs.Series.{over_pos, partial_grows, partial_tail, fourth-most}
+use Rattle.exact.proofs.Series.{over_pos, partial_grows, partial_tail, fourth_most}
 use Rattle.exact.proofs.Rotation.{Known}
 
 -- ---- the fraction
@@ -37,7 +37,7 @@ later : (r s e a d p q n : ℕ) → 0 < q → 2 * p ≤ suc n * q → T (settled
 unfolding settled
 later r s e a d p q n pos halve t m l =
     le_of_mul-le-mul_right
-    (through _ _ _ _ _ _ _ (leb→le _ _ t) (partial_tail (fourth r) (fourth-most r) p q n m halve l) (partial_grows (fourth s) p q n m l)) (over_pos q n pos)
+    (through _ _ _ _ _ _ _ (leb→le _ _ t) (partial_tail (fourth r) (fourth_most r) p q n m halve l) (partial_grows (fourth s) p q n m l)) (over_pos q n pos)
   where
     through : (R S o R' S' o' t : ℕ) → e * (R + t) + a * o ≤ e * S + d * o → R' * o ≤ (R + t) * o' → S * o' ≤ S' * o → (e * R' + a * o') * o ≤ (e * S' + d * o') * o
     through R S o R' S' o' t x y z = omega (arith, mul-le-mul_right o' x, mul-le-mul_left e y, mul-le-mul_left e z)
@@ -59,8 +59,8 @@ unfolding settled partial denominator fourth quarter quarter_unit fine
 tests = (tt, tt, tt, tt)
 
 -- so is every later partial sum
-pub quarter-near : (n : ℕ) → 70 ≤ n → Known 0 1 1 1 (5 * fine) quarter quarter_unit n
-quarter-near n l = record {
+pub quarter_near : (n : ℕ) → 70 ≤ n → Known 0 1 1 1 (5 * fine) quarter quarter_unit n
+quarter_near n l = record {
   cosine = record { least = omega (arith, at 0 2 0 1 tests.0); most = omega (arith, at 2 0 0 1 tests.1) };
   sine = record { least = omega (arith, at 1 3 0 (5 * fine + 1) tests.2); most = omega (arith, at 3 1 (5 * fine) 1 tests.3) };
 }

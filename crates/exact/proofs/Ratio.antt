@@ -7,28 +7,28 @@ use native.Mathlib.Decide.{dec_le}
 use native.Mathlib.Omega.{arith}
 use lib.Pow.{pow-add, pow-lt}
 use Rattle.exact.specs.Power.{AtMost, AtLeast}
-use Rattle.exact.proofs.Power.{at_most, at_least, products-pow, pow-mul, pow_swap, most-mul, least-mul, most_of_larger, least_of_smaller, through_power}
+use Rattle.exact.proofs.Power.{at_most, at_least, products-pow, pow-mul, pow_swap, most_mul, least_mul, most_of_larger, least_of_smaller, through_power}
 
 -- a bound to a power: (n / d) ^ k is at most 2 ^ (e k) where n / d is at most 2 ^ e
-pub most-pow : {n d p m q : ℕ} (k : ℕ) → AtMost n d p m q → AtMost (n ^ k) (d ^ k) (p * k) (m * k) q
-most-pow {n} {d} {p} {m} {q} k h = record {
+pub most_pow : {n d p m q : ℕ} (k : ℕ) → AtMost n d p m q → AtMost (n ^ k) (d ^ k) (p * k) (m * k) q
+most_pow {n} {d} {p} {m} {q} k h = record {
   per = one-le-pow k d h.per;
   root = h.root;
   holds = rw (pow_swap n k q, pow_swap d k q, pow-mul 2 m k, pow-mul 2 p k) (products-pow (n ^ q) (2 ^ m) (2 ^ p) (d ^ q) k h.holds);
 }
 
 -- (n / d) ^ k is at least 2 ^ (e k) where n / d is at least 2 ^ e
-pub least-pow : {n d p m q : ℕ} (k : ℕ) → AtLeast n d p m q → AtLeast (n ^ k) (d ^ k) (p * k) (m * k) q
-least-pow {d} k h = at_least (one-le-pow k d h.per) (most-pow k (at_most h))
+pub least_pow : {n d p m q : ℕ} (k : ℕ) → AtLeast n d p m q → AtLeast (n ^ k) (d ^ k) (p * k) (m * k) q
+least_pow {d} k h = at_least (one-le-pow k d h.per) (most_pow k (at_most h))
 
 -- a ^ k b ^ j ≤ c ^ k e ^ j where bounds on the logarithms say so; with c = b and e = m that is (a / b) ^ k ≤ (m / b) ^ j. All four are parts of D
 pub products : {a b c e D x y z w m q : ℕ} (k j : ℕ) → AtMost a D x m q → AtMost b D y m q → AtLeast c D z m q → AtLeast e D w m q
     → x * k + y * j ≤ z * k + w * j → a ^ k * b ^ j ≤ c ^ k * e ^ j
 products {a} {b} {c} {e} {D} {x} {y} {z} {w} {m} {q} k j ha hb hc he l =
-    le_of_mul-le-mul_right (through_power left (least-mul (least-pow k hc) (least-pow j he))) (mul-pos (one-le-pow k D ha.per) (one-le-pow j D ha.per))
+    le_of_mul-le-mul_right (through_power left (least_mul (least_pow k hc) (least_pow j he))) (mul-pos (one-le-pow k D ha.per) (one-le-pow j D ha.per))
   where
     left : AtMost (a ^ k * b ^ j) (D ^ k * D ^ j) (z * k + w * j) (m * k + m * j) q
-    left = most_of_larger ha.root (widen (x * k + y * j) (z * k + w * j) ((m * k + m * j) * q) l) (most-mul (most-pow k ha) (most-pow j hb))
+    left = most_of_larger ha.root (widen (x * k + y * j) (z * k + w * j) ((m * k + m * j) * q) l) (most_mul (most_pow k ha) (most_pow j hb))
       where
         widen : (s t r : ℕ) → s ≤ t → s * q + r ≤ t * q + r
         widen s t r h = omega (arith, mul-le-mul_right q h)

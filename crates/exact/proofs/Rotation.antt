@@ -6,7 +6,7 @@ use native.Mathlib.Omega.{arith}
 use Rattle.exact.specs.Series.{partial, denominator, fourth}
 use Rattle.exact.proofs.Series.{over_pos}
 use Rattle.exact.proofs.Addition.{Added}
-use Rattle.exact.proofs.Within.{Within, within_sym, within-mul, within_cancel}
+use Rattle.exact.proofs.Within.{Within, within_sym, within_mul, within_cancel}
 
 -- up to the term n, cos (p / q) is within A / e of α and sin (p / q) within B / e of β
 pub record Known (α β A B e p q n : ℕ) : Type 0 where
@@ -43,7 +43,7 @@ difference o N S T i j k l a a' c c' F F' pos first second sum sum' = within_can
 -- (x - x') (u - u') is near (x - x') α o, where u - u' is near α o
 product : (o e N K A α x x' u u' : ℕ) → Within (N * x) (N * x') (K * o) → Within (e * u) (e * (u' + α * o)) (A * o) →
     Within (N * e * (x * u + x' * u') + N * e * (α * x') * o) (N * e * (x * u' + x' * u) + N * e * (α * x) * o) (K * A * (o * o))
-product o e N K A α x x' u u' hx hu = let c = within-mul hx hu in record { least = omega (arith, c.least); most = omega (arith, c.most) }
+product o e N K A α x x' u u' hx hu = let c = within_mul hx hu in record { least = omega (arith, c.least); most = omega (arith, c.most) }
 
 -- F - F' is near (x - x') α - (y - y') β, where F o and F' o are the two halves of (x - x') (u - u') - (y - y') (v - v'), with u - u' near α o and v - v' near β o
 products : (o e N K A B α β x x' y y' u u' v v' F F' : ℕ) → 0 < o →

@@ -4,11 +4,11 @@ use Prim.Native.Nat.{ℕ, zero, suc, ◌+◌, ◌*◌, ◌^◌, ◌≤◌, ◌<�
 use native.Mathlib.Nat.{le_trans, le-mul_of_pos_right, mul_comm, mul-one, pow-zero, pow-suc, mul-pos, mul-le-mul, mul-le-mul_left, mul-le-mul_right, le_of_mul-le-mul_right, one-le-pow}
 use native.Mathlib.Omega.{arith}
 use Rattle.exact.specs.Series.{partial, denominator, fourth}
-use Rattle.exact.proofs.Series.{below_power, over_pos, over_scale, partial-scale}
+use Rattle.exact.proofs.Series.{below_power, over_pos, over_scale, partial_scale}
 use Rattle.exact.proofs.Addition.{Added, addition}
-use Rattle.exact.proofs.Within.{Within, within-mul, distance, root-order}
+use Rattle.exact.proofs.Within.{Within, within_mul, distance, root_order}
 use Rattle.exact.proofs.Rotation.{Sized}
-use Rattle.exact.proofs.Early.{cosine-most, cosine-plus, sine-least, sine-most}
+use Rattle.exact.proofs.Early.{cosine_most, cosine_plus, sine_least, sine_most}
 
 -- ---- one doubling, by plain numbers
 
@@ -55,7 +55,7 @@ cosine_gap x x' y y' = through (gap x x') (gap y y') _ (distance x x').square (d
     through X Y Z a b c = omega arith
 
 sine_gap : (x x' y y' : ℕ) → Within (x * y + y * x + x' * y' + y' * x') (x * y' + y * x' + x' * y + y' * x) (2 * (gap x x' * gap y y'))
-sine_gap x x' y y' = let c = within-mul (distance x x').close (distance y y').close in record { least = omega (arith, c.least); most = omega (arith, c.most) }
+sine_gap x x' y y' = let c = within_mul (distance x x').close (distance y y').close in record { least = omega (arith, c.least); most = omega (arith, c.most) }
 
 -- up to the term n, the sum of the squares of cos (p / q) and sin (p / q) is at most 1 + 1 / N
 record Round (N p q n : ℕ) : Type 0 where
@@ -97,7 +97,7 @@ rescaled : (N p q k n : ℕ) → 0 < k → Round N (p * k) (q * k) n → Round N
 rescaled N p q k n pos r = record {
   holds =
       through _ _ _ _ _ _ (one-le-pow n k pos) (gap_scale (k ^ n) (partial (fourth 0) p q n) (partial (fourth 2) p q n)) (gap_scale (k ^ n) (partial (fourth 1) p q n) (partial (fourth 3) p q n))
-      (rw (partial-scale (fourth 0) p q k n, partial-scale (fourth 1) p q k n, partial-scale (fourth 2) p q k n, partial-scale (fourth 3) p q k n, over_scale q k n) at r.holds);
+      (rw (partial_scale (fourth 0) p q k n, partial_scale (fourth 1) p q k n, partial_scale (fourth 2) p q k n, partial_scale (fourth 3) p q k n, over_scale q k n) at r.holds);
 }
   where
     through : (X Y X' Y' K o : ℕ) → 0 < K → X * K ≤ X' → Y * K ≤ Y' → N * (X' * X' + Y' * Y') ≤ suc N * (o * K * (o * K)) → N * (X * X + Y * Y) ≤ suc N * (o * o)
@@ -119,16 +119,16 @@ round_small N p q n pos small many = record {
 }
   where
     less : p ≤ q
-    less = root-order p q (omega arith)
+    less = root_order p q (omega arith)
 
     early : 5 * p ≤ 8 * q
     early = omega (arith, less)
 
     cosine : Within (1 * partial (fourth 0) p q n) (1 * partial (fourth 2) p q n) (denominator q n)
-    cosine = record { least = omega (arith, cosine-most p q n many pos early); most = omega (arith, cosine-plus p q n many pos early less) }
+    cosine = record { least = omega (arith, cosine_most p q n many pos early); most = omega (arith, cosine_plus p q n many pos early less) }
 
     sine : Within (q * partial (fourth 1) p q n) (q * partial (fourth 3) p q n) (p * denominator q n)
-    sine = record { least = sine-most p q n many pos early; most = omega (arith, mul-le-mul_left q (sine-least p q n many pos early)) }
+    sine = record { least = sine_most p q n many pos early; most = omega (arith, mul-le-mul_left q (sine_least p q n many pos early)) }
 
     through : (X Y o : ℕ) → 1 * X ≤ o → q * Y ≤ p * o → N * (X * X + Y * Y) ≤ suc N * (o * o)
     through X Y o lx ly =
@@ -172,5 +172,5 @@ bounded N p q pos = record {
 
     side : (x x' X Y o : ℕ) → Within x x' X → N * (X * X + Y * Y) ≤ suc N * (o * o) → Within (N * x) (N * x') (suc N * o)
     side x x' X Y o c h =
-        let small : N * X ≤ suc N * o = root-order (N * X) (suc N * o) (omega (arith, mul-le-mul_left N h)) in
+        let small : N * X ≤ suc N * o = root_order (N * X) (suc N * o) (omega (arith, mul-le-mul_left N h)) in
         record { least = omega (arith, mul-le-mul_left N c.least); most = omega (arith, mul-le-mul_left N c.most) }

@@ -10,7 +10,7 @@ use lib.ListN.{length, length-append}
 use Rattle.exact.specs.Polynomial.{value}
 use Rattle.exact.specs.Series.{partial, denominator, fourth}
 use Rattle.exact.proofs.Power.{mul-pow, pow-one}
-use Rattle.exact.proofs.Forms.{scale, value_raise, value-scale_by, length-scale}
+use Rattle.exact.proofs.Forms.{scale, value_raise, value_scale_by, length_scale}
 
 -- ---- denominators
 
@@ -32,10 +32,10 @@ over_scale q k (suc n) = rw (over_scale q k n, pow-suc k n) (through (denominato
 -- ---- partial sums
 
 -- the partial sum at a fraction written with larger numbers
-pub partial-scale : (f : ℕ → ℕ) (p q k n : ℕ) → partial f (p * k) (q * k) n ≡ partial f p q n * k ^ n
+pub partial_scale : (f : ℕ → ℕ) (p q k n : ℕ) → partial f (p * k) (q * k) n ≡ partial f p q n * k ^ n
 unfolding partial
-partial-scale f p q k zero = rw pow-zero (omega arith)
-partial-scale f p q k (suc n) = rw (partial-scale f p q k n, mul-pow p k (suc n), pow-suc k n) (through (partial f p q n) (k ^ n) (f (suc n)) (p ^ suc n))
+partial_scale f p q k zero = rw pow-zero (omega arith)
+partial_scale f p q k (suc n) = rw (partial_scale f p q k n, mul-pow p k (suc n), pow-suc k n) (through (partial f p q n) (k ^ n) (f (suc n)) (p ^ suc n))
   where
     through : (E K c P : ℕ) → E * K * (suc n * (q * k)) + c * (P * (K * k)) ≡ (E * (suc n * q) + c * P) * (K * k)
     through E K c P = omega arith
@@ -85,9 +85,9 @@ partial_tail f most p q n m halve l =
         rw (pow-suc p m) (through (partial f p q n + p ^ n) (denominator q n) (partial f p q m) (p ^ m) (denominator q m) (suc m * q) (f (suc m)) (most (suc m)) (le_trans halve later) h)
 
 -- the weights of cosine and sine are at most 1
-pub fourth-most : (r k : ℕ) → fourth r k ≤ 1
+pub fourth_most : (r k : ℕ) → fourth r k ≤ 1
 unfolding fourth
-fourth-most r k = go (eqb (k % 4) r)
+fourth_most r k = go (eqb (k % 4) r)
   where
     go : (b : Bool) → cond b 1 0 ≤ 1
     go true = omega arith
@@ -145,7 +145,7 @@ terms f c w (suc n) = scale (suc n * w) (terms f c w n) ++ (f (suc n) * c ^ suc 
 length_terms : (f : ℕ → ℕ) (c w n : ℕ) → length (terms f c w n) ≡ suc n
 unfolding terms
 length_terms f c w zero = refl
-length_terms f c w (suc n) = rw (length-append, length-scale, length_terms f c w n) (omega arith)
+length_terms f c w (suc n) = rw (length-append, length_scale, length_terms f c w n) (omega arith)
 
 -- its degree is at most n
 pub terms_length : (f : ℕ → ℕ) (c w n : ℕ) → length (terms f c w n) ≤ suc n
@@ -168,8 +168,8 @@ unfolding partial terms
 partial-value f c w x d zero = unfold value in rw pow-zero (omega arith)
 partial-value f c w x d (suc n) =
     rw (
-      value-append (suc n) (scale (suc n * w) (terms f c w n)) (f (suc n) * c ^ suc n) x d (rw (length-scale, length_terms) refl),
-      value-scale_by (suc n) (suc n * w) (terms f c w n) x d,
+      value-append (suc n) (scale (suc n * w) (terms f c w n)) (f (suc n) * c ^ suc n) x d (rw (length_scale, length_terms) refl),
+      value_scale_by (suc n) (suc n * w) (terms f c w n) x d,
       raised,
       partial-value f c w x d n,
       mul-pow c x (suc n),

@@ -5,11 +5,11 @@ use native.Mathlib.Nat.{le_trans, le-mul_of_pos_right, mul-pos, mul-le-mul_left,
 use native.Mathlib.Decide.{dec_le}
 use native.Mathlib.Omega.{arith}
 use Rattle.exact.specs.Series.{partial, denominator, fourth}
-use Rattle.exact.proofs.Series.{over_scale, partial-scale}
+use Rattle.exact.proofs.Series.{over_scale, partial_scale}
 use Rattle.exact.proofs.Addition.{addition}
 use Rattle.exact.proofs.Within.{Within, within_cancel}
 use Rattle.exact.proofs.Rotation.{Known, Rotated, rotated}
-use Rattle.exact.proofs.Early.{cosine-most, cosine-least, sine-least, sine-most}
+use Rattle.exact.proofs.Early.{cosine_most, cosine_least, sine_least, sine_most}
 use Rattle.exact.proofs.Round.{bounded}
 use Rattle.exact.proofs.Limits.{near_through, Both, both_wider, both_scaled, both_same}
 
@@ -29,12 +29,12 @@ record Steadily (c e p p' q : ℕ) : Type 0 where
 nearly_still : (h g q n : ℕ) → 0 < q → 0 < g → h * g ≤ q → 5 ≤ n → Known 1 0 h (h * g) (q * g) h q n
 nearly_still h g q n qpos gpos small many = record {
   cosine = record {
-    least = omega (arith, mul-le-mul_left (q * g) (cosine-most h q n many qpos (omega (arith, less))));
-    most = le_of_mul-le-mul_right (low (partial (fourth 0) h q n) (partial (fourth 2) h q n) (denominator q n) (cosine-least h q n many qpos (omega (arith, less)) (omega (arith, less)))) qpos;
+    least = omega (arith, mul-le-mul_left (q * g) (cosine_most h q n many qpos (omega (arith, less))));
+    most = le_of_mul-le-mul_right (low (partial (fourth 0) h q n) (partial (fourth 2) h q n) (denominator q n) (cosine_least h q n many qpos (omega (arith, less)) (omega (arith, less)))) qpos;
   };
   sine = record {
-    least = omega (arith, mul-le-mul_left g (sine-most h q n many qpos (omega (arith, less))));
-    most = omega (arith, mul-le-mul_left (q * g) (sine-least h q n many qpos (omega (arith, less))));
+    least = omega (arith, mul-le-mul_left g (sine_most h q n many qpos (omega (arith, less))));
+    most = omega (arith, mul-le-mul_left (q * g) (sine_least h q n many qpos (omega (arith, less))));
   };
 }
   where
@@ -87,10 +87,10 @@ steadily_cancel {c} {e} {p} {p'} {q} k pos h = record {
   holds = λ n l. record {
     cosine =
         part _ _ _ _ _ (k ^ n) (one-le-pow n k pos)
-        (rw (partial-scale (fourth 0) p q k n, partial-scale (fourth 0) p' q k n, partial-scale (fourth 2) p q k n, partial-scale (fourth 2) p' q k n, over_scale q k n) at (h.holds n l).cosine);
+        (rw (partial_scale (fourth 0) p q k n, partial_scale (fourth 0) p' q k n, partial_scale (fourth 2) p q k n, partial_scale (fourth 2) p' q k n, over_scale q k n) at (h.holds n l).cosine);
     sine =
         part _ _ _ _ _ (k ^ n) (one-le-pow n k pos)
-        (rw (partial-scale (fourth 1) p q k n, partial-scale (fourth 1) p' q k n, partial-scale (fourth 3) p q k n, partial-scale (fourth 3) p' q k n, over_scale q k n) at (h.holds n l).sine);
+        (rw (partial_scale (fourth 1) p q k n, partial_scale (fourth 1) p' q k n, partial_scale (fourth 3) p q k n, partial_scale (fourth 3) p' q k n, over_scale q k n) at (h.holds n l).sine);
   };
 }
   where

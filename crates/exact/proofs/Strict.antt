@@ -38,12 +38,12 @@ pub less_falls : {n n' d p m q : ℕ} → n ≤ n' → LessThan n' d p m q → L
 less_falls {m} {q} l h = record { per = h.per; root = h.root; holds = lt_of_le_of_lt (mul-le-mul_right (2 ^ m) (pow-le-pow_left l q)) h.holds }
 
 -- what is less is at most
-pub less-most : {n d p m q : ℕ} → LessThan n d p m q → AtMost n d p m q
-less-most h = record { per = h.per; root = h.root; holds = le_of_lt h.holds }
+pub less_most : {n d p m q : ℕ} → LessThan n d p m q → AtMost n d p m q
+less_most h = record { per = h.per; root = h.root; holds = le_of_lt h.holds }
 
 -- what is more is at least
-pub more-least : {n d p m q : ℕ} → MoreThan n d p m q → AtLeast n d p m q
-more-least h = record { per = h.per; root = h.root; holds = le_of_lt h.holds }
+pub more_least : {n d p m q : ℕ} → MoreThan n d p m q → AtLeast n d p m q
+more_least h = record { per = h.per; root = h.root; holds = le_of_lt h.holds }
 
 -- nothing is at most and more
 pub not_both : {n d p m q : ℕ} → AtMost n d p m q → MoreThan n d p m q → ⊥

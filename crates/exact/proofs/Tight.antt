@@ -4,7 +4,7 @@ use mathlib.Core.List.{List, [], ◌∷◌}
 use Prim.Native.Nat.{ℕ, ◌^◌}
 use lib.Dec.{lit<, lit≤}
 use Rattle.exact.proofs.Growth.{fast, slow}
-use Rattle.exact.proofs.Enclosure.{Above, Below, is-above, is_below}
+use Rattle.exact.proofs.Enclosure.{Above, Below, is_above_lem, is_below}
 
 -- the coefficients of the one above, after the first
 unfoldable pub upper_tail : List ℕ
@@ -29,7 +29,7 @@ lower = (2 ^ 48) ∷ lower_tail
 -- 2 ^ t ≤ upper(t) / 2 ^ 48
 pub tight_above : Above 12 upper (2 ^ 48)
 unfolding upper fast
-tight_above = is-above 0xb17217f7d1e (2 ^ 44) 44 12 (2 ^ 48) upper_tail (lit< tt) (lit< tt) (lit≤ tt) tt
+tight_above = is_above_lem 0xb17217f7d1e (2 ^ 44) 44 12 (2 ^ 48) upper_tail (lit< tt) (lit< tt) (lit≤ tt) tt
 
 -- lower(t) / 2 ^ 48 ≤ 2 ^ t
 pub tight_below : Below 12 lower (2 ^ 48)

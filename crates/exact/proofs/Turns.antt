@@ -5,21 +5,21 @@ use native.Mathlib.Nat.{zero-add, zero-mul, div-add-mod, mul_comm, mul_assoc, mu
 use native.Mathlib.Omega.{arith}
 use Rattle.exact.specs.Series.{partial, denominator, fourth}
 use Rattle.exact.specs.Circle.{quarter, quarter_unit}
-use Rattle.exact.proofs.Series.{over_scale, partial-scale}
+use Rattle.exact.proofs.Series.{over_scale, partial_scale}
 use Rattle.exact.proofs.Addition.{addition}
 use Rattle.exact.proofs.Within.{Within}
 use Rattle.exact.proofs.Rotation.{Known, Rotated, rotated}
 use Rattle.exact.proofs.Round.{bounded}
-use Rattle.exact.proofs.Limits.{near-minus, near_through, Both, both_wider, both_scaled}
-use Rattle.exact.proofs.Quarter.{fine, quarter-unit_pos, fine_pos, quarter-near}
+use Rattle.exact.proofs.Limits.{near_minus, near_through, Both, both_wider, both_scaled}
+use Rattle.exact.proofs.Quarter.{fine, quarter-unit_pos, fine_pos, quarter_near}
 
 -- ---- one quarter
 
 -- the place written with larger numbers
-known-scaled : {α β A B e p q n : ℕ} (k : ℕ) → Known α β A B e p q n → Known α β A B e (p * k) (q * k) n
-known-scaled {α} {β} {A} {B} {e} {p} {q} {n} k h = record {
-  cosine = rw (partial-scale (fourth 0) p q k n, partial-scale (fourth 2) p q k n, over_scale q k n) (times A α _ _ _ (k ^ n) h.cosine);
-  sine = rw (partial-scale (fourth 1) p q k n, partial-scale (fourth 3) p q k n, over_scale q k n) (times B β _ _ _ (k ^ n) h.sine);
+known_scaled : {α β A B e p q n : ℕ} (k : ℕ) → Known α β A B e p q n → Known α β A B e (p * k) (q * k) n
+known_scaled {α} {β} {A} {B} {e} {p} {q} {n} k h = record {
+  cosine = rw (partial_scale (fourth 0) p q k n, partial_scale (fourth 2) p q k n, over_scale q k n) (times A α _ _ _ (k ^ n) h.cosine);
+  sine = rw (partial_scale (fourth 1) p q k n, partial_scale (fourth 3) p q k n, over_scale q k n) (times B β _ _ _ (k ^ n) h.sine);
 }
   where
     times : (A α F G o K : ℕ) → Within (e * F) (e * (G + α * o)) (A * o) → Within (e * (F * K)) (e * (G * K + α * (o * K))) (A * (o * K))
@@ -35,7 +35,7 @@ module _ (f c q : ℕ) (from : ℕ) (turn : (n : ℕ) → from ≤ n → Known 0
   one : {p C C' S S' U a b : ℕ} → 0 < b → Both p q C C' S S' U a b → Both (p + c) q S' S C C' U (a * f + b) (b * f)
   one {p} {a = a} {b = b} bpos h =
       both_wider (mul-pos bpos (mul-pos (omega arith) (mul-pos (omega arith) fpos))) wider (record {
-        cosine = near_through 5 (1 * (5 * f)) start (λ n l. step_cosine (rotation n l)) (near-minus h.sine);
+        cosine = near_through 5 (1 * (5 * f)) start (λ n l. step_cosine (rotation n l)) (near_minus h.sine);
         sine = near_through 5 (1 * (5 * f)) start (λ n l. step_sine (rotation n l)) h.cosine;
       })
     where
@@ -77,7 +77,7 @@ pub turned : {p q C C' S S' U a b : ℕ} (k : ℕ) → 0 < q → 0 < b → Both 
     Both (k * quarter * q + p * quarter_unit) (q * quarter_unit) (pick k C S' C' S) (pick k C' S C S') (pick k S C S' C') (pick k S' C' S C) U (a * fine + k * b) (b * fine)
 turned {p} {q} k qpos bpos h =
     rw (mul_assoc k quarter q)
-    (many fine (quarter * q) (q * quarter_unit) 70 (λ n l. rw (mul_comm q quarter_unit) (known-scaled q (quarter-near n l))) fine_pos (mul-pos qpos quarter-unit_pos) k bpos (both_scaled quarter_unit h))
+    (many fine (quarter * q) (q * quarter_unit) 70 (λ n l. rw (mul_comm q quarter_unit) (known_scaled q (quarter_near n l))) fine_pos (mul-pos qpos quarter-unit_pos) k bpos (both_scaled quarter_unit h))
 
 -- ---- at x / d quarters and k more, by what k leaves when divided by 4
 
@@ -97,7 +97,7 @@ module _ {C C' S S' U a b : ℕ} (x d k : ℕ) (dpos : 0 < d) (bpos : 0 < b) (h 
       Both (quarter * (k * d + x)) (quarter_unit * d) (pick i C S' C' S) (pick i C' S C S') (pick i S C S' C') (pick i S' C' S C) U (a * fine + k * b) (b * fine)
   by_rest i e =
       rw (place quarter k d x, ← pick_by k i e C S' C' S, ← pick_by k i e C' S C S', ← pick_by k i e S C S' C', ← pick_by k i e S' C' S C)
-      (many fine (quarter * d) (quarter_unit * d) 70 (λ n l. known-scaled d (quarter-near n l)) fine_pos (mul-pos quarter-unit_pos dpos) k bpos h)
+      (many fine (quarter * d) (quarter_unit * d) 70 (λ n l. known_scaled d (quarter_near n l)) fine_pos (mul-pos quarter-unit_pos dpos) k bpos h)
     where
       place : (c k d x : ℕ) → c * (k * d + x) ≡ k * (c * d) + c * x
       place c k d x = omega arith

@@ -19,8 +19,8 @@ pub within_cancel : {x y e : ℕ} (k : ℕ) → 0 < k → Within (x * k) (y * k)
 within_cancel {x} {y} {e} k pos h = record { least = le_of_mul-le-mul_right (omega arith) pos; most = le_of_mul-le-mul_right (omega arith) pos }
 
 -- |u - u'| ≤ A and |v - v'| ≤ B give |u - u'| |v - v'| ≤ A B
-pub within-mul : {u u' v v' A B : ℕ} → Within u u' A → Within v v' B → Within (u * v + u' * v') (u * v' + u' * v) (A * B)
-within-mul {u} {u'} {v} {v'} {A} {B} h k =
+pub within_mul : {u u' v v' A B : ℕ} → Within u u' A → Within v v' B → Within (u * v + u' * v') (u * v' + u' * v) (A * B)
+within_mul {u} {u'} {v} {v'} {A} {B} h k =
     elim (dec_le u u') [
       | yes l ↦ let (i, e) = le_dest l in let c = times i (omega arith) in
           record { least = omega (arith, ap (λ (x : ℕ). x * v) e, ap (λ (x : ℕ). x * v') e); most = omega (arith, ap (λ (x : ℕ). x * v) e, ap (λ (x : ℕ). x * v') e) }
@@ -57,8 +57,8 @@ distance x y = elim (dec_le x y) [ yes l ↦ less x y l | no l ↦ turned (less 
     turned a = record { d = a.d; close = within_sym a.close; square = omega (arith, a.square); tight = λ k e c. a.tight k e (within_sym c) }
 
 -- a number whose square is at most another's square
-pub root-order : (x y : ℕ) → x * x ≤ y * y → x ≤ y
-root-order x y h = elim (dec_le x y) [ yes l ↦ l | no l ↦ absurd (over (lt_of_not-le l)) ]
+pub root_order : (x y : ℕ) → x * x ≤ y * y → x ≤ y
+root_order x y h = elim (dec_le x y) [ yes l ↦ l | no l ↦ absurd (over (lt_of_not-le l)) ]
   where
     over : y < x → ⊥
     over l = omega (arith, mul-le-mul_left x l, mul-le-mul_right y l)

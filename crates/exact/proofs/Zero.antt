@@ -8,9 +8,9 @@ use lib.Dec.{leb→le}
 use lib.Pow.{pow-add, pow_pos}
 use Rattle.exact.specs.Series.{partial, denominator, fourth}
 use Rattle.exact.specs.Circle.{QuarterTurn, quarter, quarter_unit}
-use Rattle.exact.proofs.Series.{over_pos, over_scale, partial-scale}
+use Rattle.exact.proofs.Series.{over_pos, over_scale, partial_scale}
 use Rattle.exact.proofs.Addition.{Added, addition}
-use Rattle.exact.proofs.Early.{cosine-most, cosine-least, cosine-plus, sine-least}
+use Rattle.exact.proofs.Early.{cosine_most, cosine_least, cosine_plus, sine_least}
 use Rattle.exact.proofs.Limits.{Both, both_wider}
 use Rattle.exact.proofs.Shift.{moved_to}
 use Rattle.exact.proofs.Quarter.{sharp, quarter-unit_pos, quarter-above, next_beneath}
@@ -31,8 +31,8 @@ unfolding quarter quarter_unit
 quarter-below = leb→le (5 * quarter) (8 * quarter_unit) tt
 
 -- by the first terms, where t is at most 4 / 5
-above-small : (p q : ℕ) → 0 < q → 5 * p ≤ 4 * q → Above p q
-above-small p q pos small = record { from = 5; holds = λ n l. through sharp _ _ _ sharp_least (cosine-least p q n l pos (omega arith) (omega arith)) }
+above_small : (p q : ℕ) → 0 < q → 5 * p ≤ 4 * q → Above p q
+above_small p q pos small = record { from = 5; holds = λ n l. through sharp _ _ _ sharp_least (cosine_least p q n l pos (omega arith) (omega arith)) }
   where
     through : (s E F o : ℕ) → 3 ≤ s → q * q * (F + o) ≤ q * q * E + p * p * o → s * F + o ≤ s * E
     through s E F o least h =
@@ -90,7 +90,7 @@ module _ (p q r : ℕ) (pos : 0 < q) (large : 4 * q ≤ 5 * p) (sum : p * quarte
 
   at_sum : (n : ℕ) → 70 ≤ n → sharp * partial (fourth 2) (p * quarter_unit + r) (q * quarter_unit) n + 2 * denominator (q * quarter_unit) n ≤ sharp * partial (fourth 0) (p * quarter_unit + r) (q * quarter_unit) n
   at_sum n l =
-      rw (sum, mul_comm q quarter_unit, partial-scale (fourth 0) quarter quarter_unit q n, partial-scale (fourth 2) quarter quarter_unit q n, over_scale quarter_unit q n)
+      rw (sum, mul_comm q quarter_unit, partial_scale (fourth 0) quarter quarter_unit q n, partial_scale (fourth 2) quarter quarter_unit q n, over_scale quarter_unit q n)
       (times sharp _ _ _ (q ^ n) (quarter-above n l))
     where
       times : (S E F o K : ℕ) → S * F + 2 * o ≤ S * E → S * (F * K) + 2 * (o * K) ≤ S * (E * K)
@@ -103,10 +103,10 @@ module _ (p q r : ℕ) (pos : 0 < q) (large : 4 * q ≤ 5 * p) (sum : p * quarte
         from = a.from + 70;
         holds = λ n l.
             part sharp _ _ _ (quarter_unit ^ n) (one-le-pow n quarter_unit quarter-unit_pos)
-            (rw (partial-scale (fourth 0) p q quarter_unit n, partial-scale (fourth 2) p q quarter_unit n, over_scale q quarter_unit n)
+            (rw (partial_scale (fourth 0) p q quarter_unit n, partial_scale (fourth 2) p q quarter_unit n, over_scale q quarter_unit n)
             at (above-sum sharp (p * quarter_unit) r (q * quarter_unit) n wide (a.holds n (omega arith)) (at_sum n (omega arith))
-            (sine-least (p * quarter_unit) (q * quarter_unit) n (omega arith) wide (omega (arith, whole))) (sine-least r (q * quarter_unit) n (omega arith) wide (omega (arith, rest)))
-            (cosine-plus r (q * quarter_unit) n (omega arith) wide (omega (arith, rest)) (omega (arith, rest))) (cosine-most r (q * quarter_unit) n (omega arith) wide (omega (arith, rest)))));
+            (sine_least (p * quarter_unit) (q * quarter_unit) n (omega arith) wide (omega (arith, whole))) (sine_least r (q * quarter_unit) n (omega arith) wide (omega (arith, rest)))
+            (cosine_plus r (q * quarter_unit) n (omega arith) wide (omega (arith, rest)) (omega (arith, rest))) (cosine_most r (q * quarter_unit) n (omega arith) wide (omega (arith, rest)))));
       }
     where
       part : (S E F o K : ℕ) → 0 < K → S * (F * K) + o * K ≤ S * (E * K) → S * F + o ≤ S * E
@@ -115,7 +115,7 @@ module _ (p q r : ℕ) (pos : 0 < q) (large : 4 * q ≤ 5 * p) (sum : p * quarte
 above : (p q : ℕ) → 0 < q → p * quarter_unit ≤ quarter * q → Above p q
 above p q pos less =
     elim (dec_le (5 * p) (4 * q)) [
-      | yes l ↦ above-small p q pos l
+      | yes l ↦ above_small p q pos l
       | no l ↦ let (r, e) = le_dest less in above_large p q r pos (le_of_lt (lt_of_not-le l)) e
     ]
 
@@ -165,8 +165,8 @@ narrow n few =
     high c Q a b h = omega (arith, mul-le-mul_right a h)
 
 -- every enclosure c / w ≤ pi / 2 ≤ (c + d) / w starts at most at the next fraction, and ends at least at the fraction
-pub quarter-known : {c d w : ℕ} → 0 < w → QuarterTurn c d w → (c * quarter_unit ≤ suc quarter * w) × (quarter * w ≤ (c + d) * quarter_unit)
-quarter-known {c} {d} {w} pos h = (
+pub quarter_known : {c d w : ℕ} → 0 < w → QuarterTurn c d w → (c * quarter_unit ≤ suc quarter * w) × (quarter * w ≤ (c + d) * quarter_unit)
+quarter_known {c} {d} {w} pos h = (
   elim (dec_le (c * quarter_unit) (suc quarter * w)) [ yes l ↦ l | no l ↦ absurd (late (le_of_lt (lt_of_not-le l))) ],
   elim (dec_le (quarter * w) ((c + d) * quarter_unit)) [ yes l ↦ l | no l ↦ absurd (early (le_of_lt (lt_of_not-le l))) ],
 )
@@ -197,7 +197,7 @@ pub enclosed : {c d w C C' S S' U a b : ℕ} (x D e a' b' : ℕ) → 0 < w → 0
 enclosed {c} {d} {w} {a = a} {b = b} x D e a' b' wpos dpos bpos epos turn room h =
     both_wider (mul-pos bpos (mul-pos (mul-pos (mul-pos quarter-unit_pos dpos) (mul-pos wpos dpos)) epos)) (rw (split quarter_unit, same quarter_unit) (wider _ _ _ _ _ _ _ _ room))
     (moved_to (x * D * (d * quarter_unit + w)) e (mul-pos quarter-unit_pos dpos) (mul-pos wpos dpos) bpos epos
-    (far quarter quarter_unit (quarter-known wpos turn).1) (near quarter quarter_unit (quarter-known wpos turn).0) h)
+    (far quarter quarter_unit (quarter_known wpos turn).1) (near quarter quarter_unit (quarter_known wpos turn).0) h)
   where
     far : (Q W : ℕ) → Q * w ≤ (c + d) * W → Q * x * (w * D) ≤ c * x * (W * D) + x * D * (d * W + w)
     far Q W l = omega (arith, mul-le-mul_left (x * D) l)

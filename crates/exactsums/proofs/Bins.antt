@@ -62,14 +62,14 @@ number_more ds s k t (suc n) l h = go (eq-or-lt_of_le h) (λ f. number_more ds s
         swap x y z = omega arith
 
 -- a digit d at the place n, written after those before it
-pub number-written : (ds : List ℕ) (n d : ℕ) → n < length ds → number (set ds n d) 0 (n + 1) ≡ number ds 0 n + d * 16 ^ n
-number-written ds n d l = number_next₀ (set ds n d) n ∙ ap₂ (λ (x y : ℕ). x + y * 16 ^ n) (number_out ds n d 0 n (inr (omega arith))) (get_or-set_same ds n d 0 l)
+pub number_written : (ds : List ℕ) (n d : ℕ) → n < length ds → number (set ds n d) 0 (n + 1) ≡ number ds 0 n + d * 16 ^ n
+number_written ds n d l = number_next₀ (set ds n d) n ∙ ap₂ (λ (x y : ℕ). x + y * 16 ^ n) (number_out ds n d 0 n (inr (omega arith))) (get_or-set_same ds n d 0 l)
 
 -- of no digits it is 0
-pub number-none : (ds : List ℕ) (s n : ℕ) → n ≤ 0 → number ds s n ≡ 0
+pub number_none : (ds : List ℕ) (s n : ℕ) → n ≤ 0 → number ds s n ≡ 0
 unfolding number
-number-none ds s zero l = refl
-number-none ds s (suc n) l = absurd (omega arith)
+number_none ds s zero l = refl
+number_none ds s (suc n) l = absurd (omega arith)
 
 -- one digit less, from above
 pub number_down : (ds : List ℕ) (h i : ℕ) → 0 < i → number ds 0 (i - 1) + (16 * h + get_or ds (i - 1) 0) * 16 ^ (i - 1) ≡ number ds 0 i + h * 16 ^ i
@@ -82,19 +82,19 @@ number_down ds h i l = regroup (number ds 0 (i - 1)) (get_or ds (i - 1) 0) (16 ^
     back = omega arith
 
 -- digits are less than a place more
-pub number-less : (ds : List ℕ) (s n : ℕ) → Digits ds → number ds s n < 16 ^ n
+pub number_less : (ds : List ℕ) (s n : ℕ) → Digits ds → number ds s n < 16 ^ n
 unfolding number
-number-less ds s zero h = omega arith
-number-less ds s (suc n) h = rw (pow-suc 16 n) (digit (16 ^ n) (number-less ds s n h) (h.each (s + n)))
+number_less ds s zero h = omega arith
+number_less ds s (suc n) h = rw (pow-suc 16 n) (digit (16 ^ n) (number_less ds s n h) (h.each (s + n)))
   where
     digit : {x d : ℕ} (w : ℕ) → x < w → d < 16 → x + d * w < w * 16
     digit {x} {d} w l m = let k : d * w ≤ 15 * w = mul-le-mul_right w (omega arith) in omega arith
 
 -- and bins of at most b less than b places more
-pub number-most : (ds : List ℕ) (s n b : ℕ) → ((k : ℕ) → get_or ds k 0 ≤ b) → number ds s n ≤ b * 16 ^ n
+pub number_most : (ds : List ℕ) (s n b : ℕ) → ((k : ℕ) → get_or ds k 0 ≤ b) → number ds s n ≤ b * 16 ^ n
 unfolding number
-number-most ds s zero b h = omega arith
-number-most ds s (suc n) b h = rw (pow-suc 16 n) (sum (16 ^ n) (number-most ds s n b h) (mul-le-mul_right (16 ^ n) (h (s + n))))
+number_most ds s zero b h = omega arith
+number_most ds s (suc n) b h = rw (pow-suc 16 n) (sum (16 ^ n) (number_most ds s n b h) (mul-le-mul_right (16 ^ n) (h (s + n))))
   where
     sum : {x y : ℕ} (w : ℕ) → x ≤ b * w → y ≤ b * w → x + y ≤ b * (w * 16)
     sum w k l = omega arith
@@ -110,8 +110,8 @@ sticky_next x (suc d) w t pos (inl (a, b)) = inr (more, omega arith)
 
 -- ---- one bin written
 -- a bound on all of them stays
-set-each : (l : List ℕ) (i v b : ℕ) → i < length l → ((k : ℕ) → get_or l k 0 ≤ b) → v ≤ b → (k : ℕ) → get_or (set l i v) k 0 ≤ b
-set-each l i v b h each m k = elim (le-or-lt k i) [
+set_each : (l : List ℕ) (i v b : ℕ) → i < length l → ((k : ℕ) → get_or l k 0 ≤ b) → v ≤ b → (k : ℕ) → get_or (set l i v) k 0 ≤ b
+set_each l i v b h each m k = elim (le-or-lt k i) [
   | inl a ↦ elim (le-or-lt i k) [
     | inl c ↦ let e : k ≡ i = omega arith in rw (e, get_or-set_same l i v 0 h) m
     | inr c ↦ rw (get_or-set_other l i k v 0 (λ e. omega arith)) (each k)
@@ -120,8 +120,8 @@ set-each l i v b h each m k = elim (le-or-lt k i) [
 ]
 
 -- a digit among digits
-pub digits-set : (ds : List ℕ) (j d : ℕ) → Digits ds → j < 41 → d < 16 → Digits (set ds j d)
-digits-set ds j d h l m = record { long = length-set ds j d ∙ h.long; each = λ k. below (set-each ds j d 15 (lt_of_lt_of_le l (le_of_eq (sym h.long))) (λ i. upto (h.each i)) (upto m) k) }
+pub digits_set : (ds : List ℕ) (j d : ℕ) → Digits ds → j < 41 → d < 16 → Digits (set ds j d)
+digits_set ds j d h l m = record { long = length-set ds j d ∙ h.long; each = λ k. below (set_each ds j d 15 (lt_of_lt_of_le l (le_of_eq (sym h.long))) (λ i. upto (h.each i)) (upto m) k) }
   where
     upto : {x : ℕ} → x < 16 → x ≤ 15
     upto f = omega arith
@@ -130,11 +130,11 @@ digits-set ds j d h l m = record { long = length-set ds j d ∙ h.long; each = �
     below f = omega arith
 
 -- one product more
-pub small-more : (t : ℕ) (bins : List ℕ) → Small t bins → Small (suc t) bins
-small-more t bins h = record { long = h.long; each = λ k. le_trans (h.each k) (mul-le-mul_right (2 ^ 51) (omega arith)) }
+pub small_more : (t : ℕ) (bins : List ℕ) → Small t bins → Small (suc t) bins
+small_more t bins h = record { long = h.long; each = λ k. le_trans (h.each k) (mul-le-mul_right (2 ^ 51) (omega arith)) }
 
-pub small-set : (t : ℕ) (bins : List ℕ) (i d : ℕ) → Small t bins → i < 82 → d ≤ 2 ^ 51 → Small (suc t) (set bins i (get_or bins i 0 + d))
-small-set t bins i d h l m = record { long = length-set bins i (get_or bins i 0 + d) ∙ h.long; each = set-each bins i (get_or bins i 0 + d) (suc t * 2 ^ 51) (lt_of_lt_of_le l (le_of_eq (sym h.long))) (small-more t bins h).each (sum (h.each i)) }
+pub small_set : (t : ℕ) (bins : List ℕ) (i d : ℕ) → Small t bins → i < 82 → d ≤ 2 ^ 51 → Small (suc t) (set bins i (get_or bins i 0 + d))
+small_set t bins i d h l m = record { long = length-set bins i (get_or bins i 0 + d) ∙ h.long; each = set_each bins i (get_or bins i 0 + d) (suc t * 2 ^ 51) (lt_of_lt_of_le l (le_of_eq (sym h.long))) (small_more t bins h).each (sum (h.each i)) }
   where
     sum : {x : ℕ} → x ≤ t * 2 ^ 51 → x + d ≤ suc t * 2 ^ 51
     sum f = omega arith

@@ -14,8 +14,8 @@ use lib.Ieee.Fits.{round-fits}
 use Rattle.units.specs.Answers.{float_bits}
 use Rattle.exactsums.specs.Nearest.{rounded}
 use Rattle.exactsums.specs.Work.{number, Digits, Level, Subtracted, size_of}
-use Rattle.exactsums.proofs.Bins.{number-less}
-use Rattle.exactsums.proofs.Rounding.{float, turned, rounded-plus, rounded-minus}
+use Rattle.exactsums.proofs.Bins.{number_less}
+use Rattle.exactsums.proofs.Rounding.{float, turned, rounded_plus, rounded_minus}
 
 -- ---- arrays of ones
 ones_each : (n k : ℕ) → get_or (replicate n 1) k 0 ≤ 1
@@ -43,14 +43,14 @@ module _ (bins digits : List ℕ) (over under : ℕ) (h : Subtracted bins digits
 
   -- rounded alone, a size D is a float above zero
   alone : (D : ℕ) → rounded (D * 2 ^ 172) 0 ≡ float false (D * 2 ^ 172)
-  alone D = rounded-plus (D * 2 ^ 172) 0 (D * 2 ^ 172) (sym (add-zero (D * 2 ^ 172)))
+  alone D = rounded_plus (D * 2 ^ 172) 0 (D * 2 ^ 172) (sym (add-zero (D * 2 ^ 172)))
 
   scaled : (b D : ℕ) {a : ℕ} → a ≡ D + b → a * 2 ^ 172 ≡ D * 2 ^ 172 + b * 2 ^ 172
   scaled b D e = ap (λ (n : ℕ). n * 2 ^ 172) e ∙ add-mul D b (2 ^ 172)
 
   -- no more borrowed than carried: above zero, or 0
   pub positive : under ≤ over → rounded (size_of (over - under) digits false * 2 ^ 172) 0 ≡ rounded (x * 2 ^ 172) (y * 2 ^ 172)
-  positive l = alone (z + (over - under) * 16 ^ 41) ∙ sym (rounded-plus (x * 2 ^ 172) (y * 2 ^ 172) ((z + (over - under) * 16 ^ 41) * 2 ^ 172) (scaled y (z + (over - under) * 16 ^ 41) (go x y z ((over - under) * 16 ^ 41) (under * 16 ^ 41) h.same parts)))
+  positive l = alone (z + (over - under) * 16 ^ 41) ∙ sym (rounded_plus (x * 2 ^ 172) (y * 2 ^ 172) ((z + (over - under) * 16 ^ 41) * 2 ^ 172) (scaled y (z + (over - under) * 16 ^ 41) (go x y z ((over - under) * 16 ^ 41) (under * 16 ^ 41) h.same parts)))
     where
       parts : over * 16 ^ 41 ≡ (over - under) * 16 ^ 41 + under * 16 ^ 41
       parts = ap (λ (n : ℕ). n * 16 ^ 41) (back over under l) ∙ add-mul (over - under) under (16 ^ 41)
@@ -68,10 +68,10 @@ module _ (bins digits : List ℕ) (over under : ℕ) (h : Subtracted bins digits
 
     -- the second row is the larger, by this size
     second : (size + x ≡ y) × (0 < size)
-    second = go (under - over - 1 + 1) x y z (16 ^ 41) (over * 16 ^ 41) h.same (number-less digits 0 41 h.digits-each) parts (positive-part (under - over - 1))
+    second = go (under - over - 1 + 1) x y z (16 ^ 41) (over * 16 ^ 41) h.same (number_less digits 0 41 h.digits_each) parts (positive_part (under - over - 1))
       where
-        positive-part : (n : ℕ) → 16 ^ 41 ≤ (n + 1) * 16 ^ 41
-        positive-part n = le_trans (le_of_eq (sym (one-mul (16 ^ 41)))) (mul-le-mul_right (16 ^ 41) (some n))
+        positive_part : (n : ℕ) → 16 ^ 41 ≤ (n + 1) * 16 ^ 41
+        positive_part n = le_trans (le_of_eq (sym (one-mul (16 ^ 41)))) (mul-le-mul_right (16 ^ 41) (some n))
           where
             some : (n : ℕ) → 1 ≤ n + 1
             some n = omega arith
@@ -99,7 +99,7 @@ module _ (bins digits : List ℕ) (over under : ℕ) (h : Subtracted bins digits
     pub negative : 2147483648 + float_bits (rounded (size * 2 ^ 172) 0) ≡ float_bits (rounded (x * 2 ^ 172) (y * 2 ^ 172))
     negative =
         ap (λ (f : Float). 2147483648 + float_bits f) (alone size) ∙ sym (turned (size * 2 ^ 172) size_small)
-        ∙ sym (ap float_bits (rounded-minus (x * 2 ^ 172) (y * 2 ^ 172) (size * 2 ^ 172) (scaled x size (sym second.0)) (mul-pos second.1 (pow_pos 172))))
+        ∙ sym (ap float_bits (rounded_minus (x * 2 ^ 172) (y * 2 ^ 172) (size * 2 ^ 172) (scaled x size (sym second.0)) (mul-pos second.1 (pow_pos 172))))
 
 -- every pattern is one of 32 bits
 pub pattern_fits : (p n : ℕ) → float_bits (rounded p n) < 4294967296

@@ -15,8 +15,8 @@ use Rattle.sums.specs.Sum.{above, below}
 use Rattle.sums.specs.Dot.{sum_over}
 use Rattle.exactsums.specs.Nearest.{Element, positives, negatives}
 use Rattle.exactsums.specs.Work.{Sized, IsProduct, row_of, number, Small, Level, Added, Gathered}
-use Rattle.exactsums.proofs.Bins.{small-more, small-set}
-use Rattle.exactsums.proofs.Patterns.{none_of, none-or_sized, adds_nothing, adds_one}
+use Rattle.exactsums.proofs.Bins.{small_more, small_set}
+use Rattle.exactsums.proofs.Patterns.{none_of, none_or_sized, adds_nothing, adds_one}
 
 -- ---- what `add` does
 -- nothing where one is not from 2 ^ -40 to 2 ^ 40 in size, since it is 0 then
@@ -24,24 +24,24 @@ pub added_none : (x y : ℕ) (bins : List ℕ) → ¬ (Sized x × Sized y) → A
 added_none x y bins n = record {
   plus = λ u w r q is js. stays (nothing u w r q is js).0;
   minus = λ u w r q is js. stays (nothing u w r q is js).1;
-  small = λ t h. small-more t bins h;
+  small = λ t h. small_more t bins h;
 }
   where
     nothing : (u w : Float) → Element u → Element w → x ≡ float_bits u → y ≡ float_bits w → (above u w ≡ 0) × (below u w ≡ 0)
-    nothing u w r q is js = adds_nothing u w r q x y is js (elim (none-or_sized u r x is) [
+    nothing u w r q is js = adds_nothing u w r q x y is js (elim (none_or_sized u r x is) [
       | inl e ↦ inl (none_of u r x is e)
-      | inr s ↦ elim (none-or_sized w q y js) [ inl e ↦ inr (none_of w q y js e) | inr t ↦ absurd (n (s, t)) ]
+      | inr s ↦ elim (none_or_sized w q y js) [ inl e ↦ inr (none_of w q y js e) | inr t ↦ absurd (n (s, t)) ]
     ])
 
     stays : {n m : ℕ} → m ≡ 0 → n ≡ n + m
     stays e = omega arith
 
 -- else the product goes to its bin
-pub added-one : (x y : ℕ) (bins : List ℕ) (d k i : ℕ) → length bins ≡ 82 → IsProduct x y d k → Sized x → Sized y → i ≡ row_of x y + k → Added x y bins (set bins i (get_or bins i 0 + d))
-added-one x y bins d k i long p z w at = record {
+pub added_one : (x y : ℕ) (bins : List ℕ) (d k i : ℕ) → length bins ≡ 82 → IsProduct x y d k → Sized x → Sized y → i ≡ row_of x y + k → Added x y bins (set bins i (get_or bins i 0 + d))
+added_one x y bins d k i long p z w at = record {
   plus = λ u v r q is js. (adds_one u v r q x y is js bins long d k p z w i at).0;
   minus = λ u v r q is js. (adds_one u v r q x y is js bins long d k p z w i at).1;
-  small = λ t h. small-set t bins i d h (room p.room at) p.small;
+  small = λ t h. small_set t bins i d h (room p.room at) p.small;
 }
   where
     room : k ≤ 40 → i ≡ row_of x y + k → i < 82
@@ -65,8 +65,8 @@ pub record Underway (a b : List Float) (bins : List ℕ) (i : ℕ) : Type 0 wher
   pub second : (k : ℕ) → k < i → Element (get_or b k nan)
   pub sum : number bins 0 41 * 2 ^ 172 + sum_over above (drop i a) (drop i b) + negatives a b ≡ number bins 41 41 * 2 ^ 172 + sum_over below (drop i a) (drop i b) + positives a b
 
-pub small-most : (t u : ℕ) (bins : List ℕ) → t ≤ u → Small t bins → Small u bins
-small-most t u bins l h = record { long = h.long; each = λ k. le_trans (h.each k) (mul-le-mul_right (2 ^ 51) l) }
+pub small_most : (t u : ℕ) (bins : List ℕ) → t ≤ u → Small t bins → Small u bins
+small_most t u bins l h = record { long = h.long; each = λ k. le_trans (h.each k) (mul-le-mul_right (2 ^ 51) l) }
 
 -- the beginning
 pub begun : (a b : List Float) (bins : List ℕ) → Level bins → Underway a b bins 0
@@ -113,7 +113,7 @@ pub ended : (a b : List Float) (bins : List ℕ) (i : ℕ) → length a ≡ leng
 ended a b bins i e m h l = record {
   elements = record { first = λ k f. h.first k (lt_of_lt_of_le f l); second = λ k f. h.second k (lt_of_lt_of_le f (le_trans (le_of_eq (sym e)) l)) };
   sum = whole (number bins 0 41 * 2 ^ 172) (number bins 41 41 * 2 ^ 172) (negatives a b) (positives a b) (no_product above a b i l) (no_product below a b i l) h.sum;
-  small = small-most (i + 1) 4097 bins (most h.upto) h.small;
+  small = small_most (i + 1) 4097 bins (most h.upto) h.small;
 }
   where
     whole : (s t n p : ℕ) {v z : ℕ} → v ≡ 0 → z ≡ 0 → s + v + n ≡ t + z + p → s + n ≡ t + p

@@ -12,23 +12,23 @@ use Rattle.units.specs.Answers.{float_bits}
 use Rattle.fixed.specs.Rounded.{Normal, even_bits}
 use Rattle.exactsums.specs.Nearest.{rounded}
 use Rattle.exactsums.specs.Work.{number, Digits, Sticky, IsDigit, size_of, IsHead, IsClosed}
-use Rattle.exactsums.proofs.Bins.{number_next₀, number_down, number-less}
+use Rattle.exactsums.proofs.Bins.{number_next₀, number_down, number_less}
 use Rattle.exactsums.proofs.Rounding.{normal, rounds_all}
 
 -- ---- the head that the loop starts from, and one digit more
 module _ (top : ℕ) (ds : List ℕ) (below : Bool) where
   -- digits are less than what they are taken from
   fits : Digits ds → number ds 0 41 ≤ (top + 1) * 16 ^ 41
-  fits h = le_trans (le_of_lt (number-less ds 0 41 h)) (le_trans (le_of_eq (sym (one-mul (16 ^ 41)))) (mul-le-mul_right (16 ^ 41) (some top)))
+  fits h = le_trans (le_of_lt (number_less ds 0 41 h)) (le_trans (le_of_eq (sym (one-mul (16 ^ 41)))) (mul-le-mul_right (16 ^ 41) (some top)))
     where
       some : (t : ℕ) → 1 ≤ t + 1
       some t = omega arith
 
-  pub start-plus : below ≡ false → number ds 0 41 + top * 16 ^ 41 ≡ size_of top ds below
-  start-plus e = rw e refl
+  pub start_plus : below ≡ false → number ds 0 41 + top * 16 ^ 41 ≡ size_of top ds below
+  start_plus e = rw e refl
 
-  pub start-minus : Digits ds → below ≡ true → size_of top ds below + number ds 0 41 ≡ (top + 1) * 16 ^ 41
-  start-minus h e = rw e (back ((top + 1) * 16 ^ 41) (number ds 0 41) (fits h))
+  pub start_minus : Digits ds → below ≡ true → size_of top ds below + number ds 0 41 ≡ (top + 1) * 16 ^ 41
+  start_minus h e = rw e (back ((top + 1) * 16 ^ 41) (number ds 0 41) (fits h))
     where
       back : (x y : ℕ) → y ≤ x → x - y + y ≡ x
       back x y l = omega arith
@@ -67,7 +67,7 @@ module _ (top : ℕ) (ds : List ℕ) (h i g s : ℕ) (digits : Digits ds) where
     rest = number ds 0 i;
     sticky = w;
     enough = λ l. rw e (a.enough l);
-    less = number-less ds 0 i digits;
+    less = number_less ds 0 i digits;
     small = rw e (wider a.small);
     whole = rw e (a.plus refl);
   }
@@ -79,7 +79,7 @@ module _ (top : ℕ) (ds : List ℕ) (h i g s : ℕ) (digits : Digits ds) where
       wider l = omega arith
 
   ready_minus : IsHead top ds true h i → Sticky (number ds 0 i) s → IsClosed h s true g → Ready g i s (size_of top ds true)
-  ready_minus a (inl (z, o)) c = record { rest = 0; sticky = inl (refl, o); enough = λ l. absurd (omega arith); less = positive (number ds 0 i) (16 ^ i) (number-less ds 0 i digits); small = wider a.small (c.minus refl); whole = all (size_of top ds true) (number ds 0 i) (16 ^ i) z (c.minus refl) (a.minus refl) }
+  ready_minus a (inl (z, o)) c = record { rest = 0; sticky = inl (refl, o); enough = λ l. absurd (omega arith); less = positive (number ds 0 i) (16 ^ i) (number_less ds 0 i digits); small = wider a.small (c.minus refl); whole = all (size_of top ds true) (number ds 0 i) (16 ^ i) z (c.minus refl) (a.minus refl) }
     where
       positive : (n w : ℕ) → n < w → 0 < w
       positive n w l = omega arith
@@ -89,7 +89,7 @@ module _ (top : ℕ) (ds : List ℕ) (h i g s : ℕ) (digits : Digits ds) where
 
       all : (D n w : ℕ) → n ≡ 0 → g + s ≡ h + 1 → D + n ≡ (h + 1) * w → 0 + g * w ≡ D
       all D n w k e f = let m : (g + s) * w ≡ (h + 1) * w = ap (λ (j : ℕ). j * w) e in let p : s * w ≡ 0 * w = ap (λ (j : ℕ). j * w) o in omega arith
-  ready_minus a (inr (l, o)) c = record { rest = 16 ^ i - number ds 0 i; sticky = inr (rest (number-less ds 0 i digits), o); enough = λ k. rw same (a.enough l); less = part (number-less ds 0 i digits) l; small = wider a.small; whole = all (size_of top ds true) (number ds 0 i) (16 ^ i) (number-less ds 0 i digits) (a.minus refl) }
+  ready_minus a (inr (l, o)) c = record { rest = 16 ^ i - number ds 0 i; sticky = inr (rest (number_less ds 0 i digits), o); enough = λ k. rw same (a.enough l); less = part (number_less ds 0 i digits) l; small = wider a.small; whole = all (size_of top ds true) (number ds 0 i) (16 ^ i) (number_less ds 0 i digits) (a.minus refl) }
     where
       same : g ≡ h
       same = let e = c.minus refl in omega arith

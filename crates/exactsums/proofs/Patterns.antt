@@ -14,7 +14,7 @@ use Rattle.units.specs.Units.{mag, negative, Number}
 use Rattle.units.specs.Answers.{float_bits}
 use Rattle.units.specs.Tests.{Tells}
 use Rattle.units.proofs.Naturals.{le-or-lt}
-use Rattle.units.proofs.Patterns.{Shape, packed, packed_of, packed_le, packed_lt, finite-below, within, beyond}
+use Rattle.units.proofs.Patterns.{Shape, packed, packed_of, packed_le, packed_lt, finite_below, within, beyond}
 use Rattle.sums.specs.Sum.{above, below}
 use Rattle.exactsums.specs.Nearest.{Element}
 use Rattle.exactsums.specs.Work.{Sized, Exponent, IsProduct, row_of, number}
@@ -30,13 +30,13 @@ module _ (x : Float) where
 
   -- a size's pattern is 0 where the size is
   zero-size : Number x → t ≡ 0 → mag x ≡ 0
-  zero-size n e = let p = packed_of x n in p.units ∙ ap (λ (m : ℕ). m * 2 ^ p.k) (none p.m p.k (sym p.size-bits ∙ e)) ∙ zero-mul (2 ^ p.k)
+  zero-size n e = let p = packed_of x n in p.units ∙ ap (λ (m : ℕ). m * 2 ^ p.k) (none p.m p.k (sym p.size_bits_lem ∙ e)) ∙ zero-mul (2 ^ p.k)
     where
       none : (m k : ℕ) → k * 8388608 + m ≡ 0 → m ≡ 0
       none m k f = omega arith
 
   size-zero : Number x → mag x ≡ 0 → t ≡ 0
-  size-zero n e = let p = packed_of x n in p.size-bits ∙ none p.m p.k p.shape (sym p.units ∙ e)
+  size-zero n e = let p = packed_of x n in p.size_bits_lem ∙ none p.m p.k p.shape (sym p.units ∙ e)
     where
       none : (m k : ℕ) → Shape m k → m * 2 ^ k ≡ 0 → packed m k ≡ 0
       none zero k s f = elim s.first [ inl z ↦ omega arith | inr l ↦ absurd (omega arith) ]
@@ -49,7 +49,7 @@ module _ (x : Float) where
       least : 2 ^ 109 ≤ mag x → 729808896 ≤ t
       least lo = elim (le-or-lt 729808896 t) [
         | inl l ↦ l
-        | inr l ↦ let p = packed_of x r.number in absurd (not-le_of_lt (rw p.units (packed_lt p.m p.k 8388608 86 p.shape (first 86) (rw p.size-bits at l))) lo)
+        | inr l ↦ let p = packed_of x r.number in absurd (not-le_of_lt (rw p.units (packed_lt p.m p.k 8388608 86 p.shape (first 86) (rw p.size_bits_lem at l))) lo)
       ]
 
       most : mag x ≤ 2 ^ 189 → t ≤ 1400897536
@@ -58,7 +58,7 @@ module _ (x : Float) where
   module _ (f : T (fits binary32 x)) where
     -- 0 is accepted
     pub accepts_zero : t ≡ 0 → Element x
-    accepts_zero e = let n = finite-below x f (lt_of_le_of_lt (le_of_eq e) (omega arith)) in record { number = n; size = inl (zero-size n e) }
+    accepts_zero e = let n = finite_below x f (lt_of_le_of_lt (le_of_eq e) (omega arith)) in record { number = n; size = inl (zero-size n e) }
 
     -- and what lies between
     pub accepts_sized : Sized (float_bits x) → Element x
@@ -66,7 +66,7 @@ module _ (x : Float) where
         let (n, m) = within 8388608 166 (first 166) x (omega arith) f (le_trans h.most (lit≤ tt)) in
         let p = packed_of x n in
         let l : 729808896 ≤ t = le_trans (lit≤ tt) h.least in
-        record { number = n; size = inr (rw p.units (packed_le 8388608 86 p.m p.k (first 86) p.shape (rw p.size-bits at l)), m) }
+        record { number = n; size = inr (rw p.units (packed_le 8388608 86 p.m p.k (first 86) p.shape (rw p.size_bits_lem at l)), m) }
 
     -- so the test of that tells of any other
     pub tells_sized : {answer : Bool} → ¬ (t ≡ 0) → Tells (Sized (float_bits x)) answer → Tells (Element x) answer
@@ -83,15 +83,15 @@ module _ (x : Float) (r : Element x) (b : ℕ) (is : b ≡ float_bits x) where
   none_of e = zero-size x r.number (ap (λ (n : ℕ). n % 2147483648) (sym is) ∙ e)
 
   -- any other
-  pub none-or_sized : (b % 2147483648 ≡ 0) ⊎ Sized b
-  none-or_sized = elim (eq-zero-or-pos (b % 2147483648)) [ inl e ↦ inl e | inr l ↦ inr (rw is (sized_of x r (some (rw is at l)))) ]
+  pub none_or_sized : (b % 2147483648 ≡ 0) ⊎ Sized b
+  none_or_sized = elim (eq-zero-or-pos (b % 2147483648)) [ inl e ↦ inl e | inr l ↦ inr (rw is (sized_of x r (some (rw is at l)))) ]
     where
       some : {n : ℕ} → 0 < n → ¬ (n ≡ 0)
       some l e = omega arith
 
   -- whose size has 24 digits
   pub size_of : Sized b → mag x ≡ (b % 8388608 + 8388608) * 2 ^ (b / 8388608 % 256 - 1)
-  size_of h = let p = packed_of x r.number in p.units ∙ digits p.m p.k p.shape (ap (λ (n : ℕ). n % 2147483648) is ∙ p.size-bits) h.least
+  size_of h = let p = packed_of x r.number in p.units ∙ digits p.m p.k p.shape (ap (λ (n : ℕ). n % 2147483648) is ∙ p.size_bits_lem) h.least
     where
       digits : (m k : ℕ) → Shape m k → b % 2147483648 ≡ packed m k → 729808896 ≤ b % 2147483648 → m * 2 ^ k ≡ (b % 8388608 + 8388608) * 2 ^ (b / 8388608 % 256 - 1)
       digits m k s e l =

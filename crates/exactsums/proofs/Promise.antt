@@ -17,11 +17,11 @@ use Rattle.units.proofs.Result.{Rounds, rounds_of, rounds_bounded, rounds_whole}
 use Rattle.units.proofs.Nearest.{rounds_nearest}
 use Rattle.units.proofs.Ties.{rounds_even}
 use Rattle.sums.specs.Sum.{apart}
-use Rattle.sums.proofs.Apart.{near_apart, apart-least, apart-scaled}
+use Rattle.sums.proofs.Apart.{near_apart, apart_least, apart-scaled}
 use Rattle.exactsums.specs.Nearest.{Lengths, Elements, Accepts, NearestDot, positives, negatives, rounded, distance}
 use Rattle.exactsums.specs.Work.{number, Gathered}
-use Rattle.exactsums.proofs.Bins.{number-most}
-use Rattle.exactsums.proofs.Rounding.{rounded-plus, rounded-minus, float_zero}
+use Rattle.exactsums.proofs.Bins.{number_most}
+use Rattle.exactsums.proofs.Rounding.{rounded_plus, rounded_minus, float_zero}
 
 -- ---- p - n in units of 2 ^ -298, rounded
 -- a factor goes into a distance
@@ -70,13 +70,13 @@ module _ (p n : ℕ) where
         far m = le_trans (le_of_eq (sym (zero-add (2 ^ 400)))) (add-le-add zero-le (le_of_eq refl))
 
     -- no float is nearer
-    is-nearest : (w : Float) → Number w → distance z p n ≤ distance w p n
-    is-nearest w h = apart-least (rounds_nearest z w p n (2 ^ 149) (distance w p n) (pow_pos 149) exact is_number.is_finite h (near_apart (P w * 2 ^ 149 + n) (N w * 2 ^ 149 + p)))
+    is_nearest : (w : Float) → Number w → distance z p n ≤ distance w p n
+    is_nearest w h = apart_least (rounds_nearest z w p n (2 ^ 149) (distance w p n) (pow_pos 149) exact is_number.is_finite h (near_apart (P w * 2 ^ 149 + n) (N w * 2 ^ 149 + p)))
 
     -- at a tie it is even
-    is-even : (w : Float) → Number w → distance w p n ≡ distance z p n → ¬ (P w + N z ≡ P z + N w) → float_bits z % 2 ≡ 0
+    is_even : (w : Float) → Number w → distance w p n ≡ distance z p n → ¬ (P w + N z ≡ P z + N w) → float_bits z % 2 ≡ 0
     unfolding apart
-    is-even w h e d = elim (either (P w * 2 ^ 149) (N w * 2 ^ 149) (P z * 2 ^ 149) (N z * 2 ^ 149) e) [
+    is_even w h e d = elim (either (P w * 2 ^ 149) (N w * 2 ^ 149) (P z * 2 ^ 149) (N z * 2 ^ 149) e) [
       | inl s ↦ absurd (d (cancel (2 ^ 149) (pow_pos 149) (P w) (N z) (P z) (N w) s))
       | inr t ↦ rounds_even z w p n (2 ^ 149) (pow_pos 149) exact is_number.is_finite h (gather (2 ^ 149) (P z) (P w) (N z) (N w) t) d
     ]
@@ -97,8 +97,8 @@ module _ (p n : ℕ) where
         gather c u x v y f = omega arith
 
     -- whole numbers of 2 ^ -126: within u of the sum
-    is-near : (x y : ℕ) → x * 2 ^ 172 ≡ p → y * 2 ^ 172 ≡ n → distance z p n * 2 ^ 24 ≤ apart p n
-    is-near x y e f =
+    is_near : (x y : ℕ) → x * 2 ^ 172 ≡ p → y * 2 ^ 172 ≡ n → distance z p n * 2 ^ 24 ≤ apart p n
+    is_near x y e f =
         le_trans (le_of_eq (ap (λ (m : ℕ). m * 2 ^ 24) far ∙ mul_right_comm (apart (P z + b) (N z + a)) (2 ^ 149) (2 ^ 24))) (le_trans (mul-le-mul_right (2 ^ 149) bound) (le_of_eq (sym sum)))
       where
         -- p and n in units of 2 ^ -149
@@ -108,46 +108,46 @@ module _ (p n : ℕ) where
         b : ℕ
         b = y * 2 ^ 23
 
-        p-is : p ≡ a * 2 ^ 149
-        p-is = sym (mul_assoc x (2 ^ 23) (2 ^ 149) ∙ e)
+        p_is : p ≡ a * 2 ^ 149
+        p_is = sym (mul_assoc x (2 ^ 23) (2 ^ 149) ∙ e)
 
         n_is : n ≡ b * 2 ^ 149
         n_is = sym (mul_assoc y (2 ^ 23) (2 ^ 149) ∙ f)
 
         sum : apart p n ≡ apart a b * 2 ^ 149
-        sum = ap₂ apart p-is n_is ∙ apart-times a b (2 ^ 149)
+        sum = ap₂ apart p_is n_is ∙ apart-times a b (2 ^ 149)
 
         far : distance z p n ≡ apart (P z + b) (N z + a) * 2 ^ 149
-        far = ap₂ (λ (u v : ℕ). apart (P z * 2 ^ 149 + u) (N z * 2 ^ 149 + v)) n_is p-is ∙ ap₂ apart (sym (add-mul (P z) b (2 ^ 149))) (sym (add-mul (N z) a (2 ^ 149))) ∙ apart-times (P z + b) (N z + a) (2 ^ 149)
+        far = ap₂ (λ (u v : ℕ). apart (P z * 2 ^ 149 + u) (N z * 2 ^ 149 + v)) n_is p_is ∙ ap₂ apart (sym (add-mul (P z) b (2 ^ 149))) (sym (add-mul (N z) a (2 ^ 149))) ∙ apart-times (P z + b) (N z + a) (2 ^ 149)
 
         whole : Rounds z a b 1
-        whole = rounds a b 1 (apart a b) (lit< tt) (mul-one (apart p n * 2 ^ 149) ∙ ap (λ (m : ℕ). m * 2 ^ 149) sum ∙ mul_assoc (apart a b) (2 ^ 149) (2 ^ 149)) (λ l. plus a b (le_of_mul-le-mul_right (le_trans (le_of_eq (sym n_is)) (le_trans l (le_of_eq p-is))) (pow_pos 149))) (λ l. minus a b (lt_of_mul-lt-mul_right (2 ^ 149) (lt_of_le_of_lt (le_of_eq (sym p-is)) (lt_of_lt_of_le l (le_of_eq n_is)))))
+        whole = rounds a b 1 (apart a b) (lit< tt) (mul-one (apart p n * 2 ^ 149) ∙ ap (λ (m : ℕ). m * 2 ^ 149) sum ∙ mul_assoc (apart a b) (2 ^ 149) (2 ^ 149)) (λ l. plus a b (le_of_mul-le-mul_right (le_trans (le_of_eq (sym n_is)) (le_trans l (le_of_eq p_is))) (pow_pos 149))) (λ l. minus a b (lt_of_mul-lt-mul_right (2 ^ 149) (lt_of_le_of_lt (le_of_eq (sym p_is)) (lt_of_lt_of_le l (le_of_eq n_is)))))
 
         bound : apart (P z + b) (N z + a) * 2 ^ 24 ≤ apart a b
         bound = apart-scaled (P z + b) (N z + a) (2 ^ 24) (apart a b) (rounds_whole z a b (apart a b) whole is_number.is_finite (near_apart a b))
 
 -- +0 of 0
 is_zero : (p n : ℕ) → p ≡ n → rounded p n ≡ of_bits binary32 0
-is_zero p n e = rounded-plus p n 0 (e ∙ sym (zero-add n)) ∙ float_zero
+is_zero p n e = rounded_plus p n 0 (e ∙ sym (zero-add n)) ∙ float_zero
 
 -- equal differences round alike
 pub same_difference : (p n q m : ℕ) → p + m ≡ q + n → rounded p n ≡ rounded q m
 same_difference p n q m e = elim (le-or-lt n p) [
-  | inl l ↦ rounded-plus p n (p - n) (omega arith) ∙ sym (rounded-plus q m (p - n) (omega arith))
-  | inr l ↦ rounded-minus p n (n - p) (omega arith) (omega arith) ∙ sym (rounded-minus q m (n - p) (omega arith) (omega arith))
+  | inl l ↦ rounded_plus p n (p - n) (omega arith) ∙ sym (rounded_plus q m (p - n) (omega arith))
+  | inr l ↦ rounded_minus p n (n - p) (omega arith) (omega arith) ∙ sym (rounded_minus q m (n - p) (omega arith) (omega arith))
 ]
 
 -- and are equally far from any float
-same-distance : (x : Float) (p n q m : ℕ) → p + m ≡ q + n → distance x p n ≡ distance x q m
+same_distance : (x : Float) (p n q m : ℕ) → p + m ≡ q + n → distance x p n ≡ distance x q m
 unfolding apart
-same-distance x p n q m e = go (P x * 2 ^ 149) (N x * 2 ^ 149)
+same_distance x p n q m e = go (P x * 2 ^ 149) (N x * 2 ^ 149)
   where
     go : (u v : ℕ) → u + n - (v + p) + (v + p - (u + n)) ≡ u + m - (v + q) + (v + q - (u + m))
     go u v = omega arith
 
-same-apart : (p n q m : ℕ) → p + m ≡ q + n → apart p n ≡ apart q m
+same_apart : (p n q m : ℕ) → p + m ≡ q + n → apart p n ≡ apart q m
 unfolding apart
-same-apart p n q m e = omega arith
+same_apart p n q m e = omega arith
 
 -- ---- success: all products stand in the bins, x less y is the exact sum, in units of 2 ^ -126
 module _ (a b : List Float) (l : Lengths a b) (bins : List ℕ) (g : Gathered a b bins) where
@@ -165,13 +165,13 @@ module _ (a b : List Float) (l : Lengths a b) (bins : List ℕ) (g : Gathered a 
 
   -- 41 bins of less than 2 ^ 64 hold less than 2 ^ 400
   bounded : (s : ℕ) → number bins s 41 * 2 ^ 172 ≤ 2 ^ 400
-  bounded s = le_trans (mul-le-mul_right (2 ^ 172) (number-most bins s 41 (4097 * 2 ^ 51) g.small.each)) (lit≤ tt)
+  bounded s = le_trans (mul-le-mul_right (2 ^ 172) (number_most bins s 41 (4097 * 2 ^ 51) g.small.each)) (lit≤ tt)
 
   balance : x + n ≡ p + y
   balance = g.sum ∙ add_comm y p
 
   far : (w : Float) → distance w x y ≡ distance w p n
-  far w = same-distance w x y p n balance
+  far w = same_distance w x y p n balance
 
   promised : NearestDot a b 0 (rounded x y)
   promised =
@@ -184,9 +184,9 @@ module _ (a b : List Float) (l : Lengths a b) (bins : List ℕ) (g : Gathered a 
         success = λ h. refl;
         value = λ h. same_difference x y p n balance;
         finite = λ h. is_number x y u v;
-        nearest = λ h w k. rw (far z, far w) at (is-nearest x y u v w k);
-        even = λ h w k e. is-even x y u v w k (far w ∙ e ∙ sym (far z));
-        near = λ h. le_trans (le_of_eq (ap (λ (m : ℕ). m * 2 ^ 24) (sym (far z)))) (le_trans (is-near x y u v (number bins 0 41) (number bins 41 41) refl refl) (le_of_eq (same-apart x y p n balance)));
+        nearest = λ h w k. rw (far z, far w) at (is_nearest x y u v w k);
+        even = λ h w k e. is_even x y u v w k (far w ∙ e ∙ sym (far z));
+        near = λ h. le_trans (le_of_eq (ap (λ (m : ℕ). m * 2 ^ 24) (sym (far z)))) (le_trans (is_near x y u v (number bins 0 41) (number bins 41 41) refl refl) (le_of_eq (same_apart x y p n balance)));
         zero = λ h e. same_difference x y p n balance ∙ is_zero p n e;
       }
 

@@ -22,7 +22,7 @@ use Rattle.units.proofs.Bits.{Is, sign_bit, pattern, no_nan, no_nan_positive}
 use Rattle.units.proofs.Patterns.{pattern_back}
 use Rattle.units.proofs.Ties.{sticky}
 use Rattle.fixed.specs.Rounded.{Normal, even_bits}
-use Rattle.fixed.proofs.Even.{even_is, bits_below, even-zero}
+use Rattle.fixed.proofs.Even.{even_is, bits_below, even_zero}
 use Rattle.sums.specs.Sum.{apart}
 use Rattle.exactsums.specs.Nearest.{rounded}
 use Rattle.exactsums.specs.Work.{Sticky}
@@ -65,8 +65,8 @@ module _ (h k r s D : ℕ) (is : h * 2 ^ k + r ≡ D) (pos : 0 < h) where
     abbrev g : ℕ
     g = 24 + j + k
 
-    kept-sum : rnd (D * 2 ^ 172) (2 ^ 149) ≡ closest D (2 * 2 ^ j * 2 ^ k) * 2 ^ g
-    kept-sum = kept D (2 ^ 172) (2 ^ 149) g (2 * 2 ^ j * 2 ^ k) (pow_pos 149) (mul-pos (mul-pos (lit< tt) (pow_pos j)) (pow_pos k)) (rw (pow-add 2 (24 + j) k, pow-add 2 24 j) (step (2 ^ j) (2 ^ k) (2 ^ 172) (2 ^ 149) refl)) (bottom (2 ^ j) (2 ^ k) low is) (top (2 ^ j) (2 ^ k) high small is)
+    kept_sum : rnd (D * 2 ^ 172) (2 ^ 149) ≡ closest D (2 * 2 ^ j * 2 ^ k) * 2 ^ g
+    kept_sum = kept D (2 ^ 172) (2 ^ 149) g (2 * 2 ^ j * 2 ^ k) (pow_pos 149) (mul-pos (mul-pos (lit< tt) (pow_pos j)) (pow_pos k)) (rw (pow-add 2 (24 + j) k, pow-add 2 24 j) (step (2 ^ j) (2 ^ k) (2 ^ 172) (2 ^ 149) refl)) (bottom (2 ^ j) (2 ^ k) low is) (top (2 ^ j) (2 ^ k) high small is)
       where
         step : (u K W Z : ℕ) → 2 * W ≡ Z * 2 ^ 24 → 2 * u * K * W ≡ Z * (2 ^ 24 * u * K)
         step u K W Z e = let f : u * K * (2 * W) ≡ u * K * (Z * 2 ^ 24) = ap (λ (n : ℕ). u * K * n) e in omega arith
@@ -77,16 +77,16 @@ module _ (h k r s D : ℕ) (is : h * 2 ^ k + r ≡ D) (pos : 0 < h) where
         top : (u K : ℕ) → h < 2 ^ 25 * u → r < K → h * K + r ≡ D → D < 2 ^ 24 * (2 * u * K)
         top u K l q e = let m : suc h * K ≤ 2 ^ 25 * u * K = mul-le-mul_right K l in omega arith
 
-    kept-digits : rnd ((2 * h + 1) * 2 ^ (62 + k)) (2 ^ 40) ≡ closest (2 * h + 1) (4 * 2 ^ j) * 2 ^ g
-    kept-digits = kept (2 * h + 1) (2 ^ (62 + k)) (2 ^ 40) g (4 * 2 ^ j) (pow_pos 40) (mul-pos (lit< tt) (pow_pos j)) (rw (pow-add 2 (24 + j) k, pow-add 2 24 j, pow-add 2 62 k) (step (2 ^ j) (2 ^ k))) (omega arith) (omega arith)
+    kept_digits : rnd ((2 * h + 1) * 2 ^ (62 + k)) (2 ^ 40) ≡ closest (2 * h + 1) (4 * 2 ^ j) * 2 ^ g
+    kept_digits = kept (2 * h + 1) (2 ^ (62 + k)) (2 ^ 40) g (4 * 2 ^ j) (pow_pos 40) (mul-pos (lit< tt) (pow_pos j)) (rw (pow-add 2 (24 + j) k, pow-add 2 24 j, pow-add 2 62 k) (step (2 ^ j) (2 ^ k))) (omega arith) (omega arith)
       where
         step : (u K : ℕ) → 4 * u * (2 ^ 62 * K) ≡ 2 ^ 40 * (2 ^ 24 * u * K)
         step u K = omega arith
 
     between : 0 < r → s ≡ 1 → rnd (D * 2 ^ 172) (2 ^ 149) ≡ rnd ((2 * h + s) * 2 ^ (62 + k)) (2 ^ 40)
     between some o =
-        kept-sum ∙ ap (λ (q : ℕ). q * 2 ^ g) (ap (λ (n : ℕ). closest n (2 * 2 ^ j * 2 ^ k)) (sym is) ∙ sticky h (2 ^ k) r 1 (2 ^ j) (pow_pos j) small (inr (some, refl)))
-        ∙ sym kept-digits ∙ ap (λ (i : ℕ). rnd ((2 * h + i) * 2 ^ (62 + k)) (2 ^ 40)) (sym o)
+        kept_sum ∙ ap (λ (q : ℕ). q * 2 ^ g) (ap (λ (n : ℕ). closest n (2 * 2 ^ j * 2 ^ k)) (sym is) ∙ sticky h (2 ^ k) r 1 (2 ^ j) (pow_pos j) small (inr (some, refl)))
+        ∙ sym kept_digits ∙ ap (λ (i : ℕ). rnd ((2 * h + i) * 2 ^ (62 + k)) (2 ^ 40)) (sym o)
 
 -- whatever is left
 pub same_rounding : (h k r s D : ℕ) → h * 2 ^ k + r ≡ D → 0 < h → r < 2 ^ k → Sticky r s → (0 < r → 2 ^ 57 ≤ h) → rnd (D * 2 ^ 172) (2 ^ 149) ≡ rnd ((2 * h + s) * 2 ^ (62 + k)) (2 ^ 40)
@@ -142,16 +142,16 @@ turned X l = one_more ((size v - 24) * 8388608) (v / 2 ^ (size v - 24)) (shape t
     one_more a b e f = omega arith
 
 -- ---- p - n rounded, by its sign
-pub rounded-plus : (p n X : ℕ) → p ≡ X + n → rounded p n ≡ float false X
+pub rounded_plus : (p n X : ℕ) → p ≡ X + n → rounded p n ≡ float false X
 unfolding apart
-rounded-plus p n X e = rw (le-ltb p n (omega arith)) (ap (float false) (rest p n X e))
+rounded_plus p n X e = rw (le-ltb p n (omega arith)) (ap (float false) (rest p n X e))
   where
     rest : (p n X : ℕ) → p ≡ X + n → p - n + (n - p) ≡ X
     rest p n X e = omega arith
 
-pub rounded-minus : (p n X : ℕ) → n ≡ X + p → 0 < X → rounded p n ≡ float true X
+pub rounded_minus : (p n X : ℕ) → n ≡ X + p → 0 < X → rounded p n ≡ float true X
 unfolding apart
-rounded-minus p n X e l = rw (lt-ltb p n (omega arith)) (ap (float true) (rest p n X e))
+rounded_minus p n X e l = rw (lt-ltb p n (omega arith)) (ap (float true) (rest p n X e))
   where
     rest : (p n X : ℕ) → n ≡ X + p → p - n + (n - p) ≡ X
     rest p n X e = omega arith
@@ -194,13 +194,13 @@ module _ (h i r s : ℕ) (w : Sticky r s) (many : 0 < r → 2 ^ 57 ≤ h) (few :
 
       go : (h ≡ 0) ⊎ (0 < h) → even_bits (2 * h + s) (62 + 4 * i) ≡ float_bits (rounded (D * 2 ^ 172) 0)
       go (inl e) =
-          even-zero (2 * h + s) (62 + 4 * i) (none e).0 ∙ sym (pattern_back 0 (lit< tt) (no_nan_positive 0 (lit< tt)))
-          ∙ ap float_bits (sym (rounded-plus (D * 2 ^ 172) 0 0 (ap (λ (n : ℕ). n * 2 ^ 172) (none e).1 ∙ zero-mul (2 ^ 172)) ∙ float_zero))
+          even_zero (2 * h + s) (62 + 4 * i) (none e).0 ∙ sym (pattern_back 0 (lit< tt) (no_nan_positive 0 (lit< tt)))
+          ∙ ap float_bits (sym (rounded_plus (D * 2 ^ 172) 0 0 (ap (λ (n : ℕ). n * 2 ^ 172) (none e).1 ∙ zero-mul (2 ^ 172)) ∙ float_zero))
       go (inr l) =
           let n = 2 * h + s in
           let e = 62 + 4 * i in
           let some : 0 < n = omega arith in
-          sym (ap float_bits (rounded-plus (D * 2 ^ 172) 0 (D * 2 ^ 172) (sym (add-zero (D * 2 ^ 172))))
+          sym (ap float_bits (rounded_plus (D * 2 ^ 172) 0 (D * 2 ^ 172) (sym (add-zero (D * 2 ^ 172))))
           ∙ pattern_of_lem false (D * 2 ^ 172) (even_bits n e) (bits_below n e some less normal)
           (subst (λ (u : ℕ). Is (of_bits binary32 (sign_bit false + even_bits n e)) false u) (sym (same_rounding h (4 * i) r s D (sym sum) l (rw (sixteen i) at small) w many)) (even_is n e some less normal false))
           ∙ zero-add (even_bits n e))

@@ -80,7 +80,7 @@ pub record Judged (a b : List Float) (bins : List ℕ) (answer : Bool) : Type 0 
 -- the first row less the second is the number of the digits and (over - under) 16 ^ 41
 pub record Subtracted (bins digits : List ℕ) (over under : ℕ) : Type 0 where
   pub same : number bins 0 41 + under * 16 ^ 41 ≡ number bins 41 41 + (number digits 0 41 + over * 16 ^ 41)
-  pub digits-each : Digits digits
+  pub digits_each : Digits digits
   pub over_small : over ≤ 2 ^ 60
   pub under_small : under ≤ 2 ^ 60
 

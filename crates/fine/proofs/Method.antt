@@ -10,9 +10,9 @@ use Rattle.exact.specs.Power.{AtMost, AtLeast}
 use Rattle.exact.specs.Polynomial.{value}
 use Rattle.exact.proofs.Power.{least_of_more, most_of_less}
 use Rattle.exact.proofs.Growth.{fast, slow}
-use Rattle.exact.proofs.Enclosure.{Above, Below, is-above, is_below}
+use Rattle.exact.proofs.Enclosure.{Above, Below, is_above_lem, is_below}
 use Rattle.exact.proofs.Pieces.{end}
-use Rattle.exact.proofs.Near.{near-least, high-enough}
+use Rattle.exact.proofs.Near.{near_least, high_enough}
 use Rattle.fixed.specs.Horner.{horner}
 use Rattle.fixed.proofs.Horner.{quotients, horner_mono, horner-below, horner-above}
 use Rattle.fine.specs.Value.{coefficients, fine_of}
@@ -36,12 +36,12 @@ larger =
 -- with them it grows as fast
 over : Above 17 (U ∷ larger) U
 unfolding larger fast
-over = is-above 0xb17217f7d1cf79abcb (2 ^ 72) 72 17 U larger (lit< tt) (lit< tt) (lit≤ tt) tt
+over = is_above_lem 0xb17217f7d1cf79abcb (2 ^ 72) 72 17 U larger (lit< tt) (lit< tt) (lit≤ tt) tt
 
 -- the polynomial is at most 12 units in U below 2 ^ t, relatively
 near : (p q : ℕ) → 0 < q → p ≤ q → AtLeast ((U + 12) * value 17 (U ∷ coefficients) p q) (U * (U * q ^ 17)) p 0 q
-unfolding coefficients larger high-enough end
-near p q pos small = near-least 17 0 (U ∷ coefficients) U (U + 12) U (U ∷ larger) U 1 (1 ∷ []) (lit< tt) refl (lit≤ tt) p q pos small (lit< tt) (lit< tt) over tt
+unfolding coefficients larger high_enough end
+near p q pos small = near_least 17 0 (U ∷ coefficients) U (U + 12) U (U ∷ larger) U 1 (1 ∷ []) (lit< tt) refl (lit≤ tt) p q pos small (lit< tt) (lit< tt) over tt
 
 -- ---- the floors
 

@@ -36,18 +36,18 @@ pub record Close (D p E F G a l : ℕ) : Type 0 where
   pub least : D * F ≤ D * (p * E + G) + l * E
 
 -- a bound times y / e, which is at most 1
-scaled-most : (D y e p E F G a : ℕ) → y ≤ e → D * (p * E + G) ≤ D * F + a * E → D * (y * (p * E)) + D * (y * G) ≤ D * (y * F) + a * (E * e)
-scaled-most D y e p E F G a small h = omega (arith, mul-le-mul_left y h, mul-le-mul_right (a * E) small)
+scaled_most : (D y e p E F G a : ℕ) → y ≤ e → D * (p * E + G) ≤ D * F + a * E → D * (y * (p * E)) + D * (y * G) ≤ D * (y * F) + a * (E * e)
+scaled_most D y e p E F G a small h = omega (arith, mul-le-mul_left y h, mul-le-mul_right (a * E) small)
 
-scaled-least : (D y e p E F G l : ℕ) → y ≤ e → D * F ≤ D * (p * E + G) + l * E → D * (y * F) ≤ D * (y * (p * E)) + D * (y * G) + l * (E * e)
-scaled-least D y e p E F G l small h = omega (arith, mul-le-mul_left y h, mul-le-mul_right (l * E) small)
+scaled_least : (D y e p E F G l : ℕ) → y ≤ e → D * F ≤ D * (p * E + G) + l * E → D * (y * F) ≤ D * (y * (p * E)) + D * (y * G) + l * (E * e)
+scaled_least D y e p E F G l small h = omega (arith, mul-le-mul_left y h, mul-le-mul_right (l * E) small)
 
 -- the product that is cut off, against the exact one
-product-most : (D z y e p E q : ℕ) → z * e ≤ y * D → q ≤ p * z → q * (E * e) ≤ D * (y * (p * E))
-product-most D z y e p E q low floor = omega (arith, mul-le-mul_right (p * E) low, mul-le-mul_right (E * e) floor)
+product_most : (D z y e p E q : ℕ) → z * e ≤ y * D → q ≤ p * z → q * (E * e) ≤ D * (y * (p * E))
+product_most D z y e p E q low floor = omega (arith, mul-le-mul_right (p * E) low, mul-le-mul_right (E * e) floor)
 
-product-least : (D z y e s p b E q : ℕ) → y * D ≤ (z + s) * e → p ≤ b → p * z ≤ q → D * (y * (p * E)) ≤ (q + s * b) * (E * e)
-product-least D z y e s p b E q high up ceiling = omega (arith, mul-le-mul_right (p * E) high, mul-le-mul_right (E * e) ceiling, mul-le-mul_right (s * (E * e)) up)
+product_least : (D z y e s p b E q : ℕ) → y * D ≤ (z + s) * e → p ≤ b → p * z ≤ q → D * (y * (p * E)) ≤ (q + s * b) * (E * e)
+product_least D z y e s p b E q high up ceiling = omega (arith, mul-le-mul_right (p * E) high, mul-le-mul_right (E * e) ceiling, mul-le-mul_right (s * (E * e)) up)
 
 -- one step more, to a coefficient in units g times as large
 module _ (D z y e s : ℕ) (low : z * e ≤ y * D) (high : y * D ≤ (z + s) * e) (small : y ≤ e) where
@@ -55,9 +55,9 @@ module _ (D z y e s : ℕ) (low : z * e ≤ y * D) (high : y * D ≤ (z + s) * e
       → Close D (g * (c - q)) (E * e) (g * c * (E * e) + y * G) (y * F) (l + g * D + s * b) a
   close_step {p} {E} {F} {G} {a} {l} g c b q h up fits floor ceiling = record {
     most =
-        above (E * e) (D * (y * (p * E))) (y * F) (y * G) (c - q) (omega arith) (scaled-least D y e p E F G l small h.least)
-        (product-least D z y e s p b E (q * (g * D) + g * D) high up ceiling);
-    least = under (E * e) (D * (y * (p * E))) (y * F) (y * G) (c - q) (omega arith) (scaled-most D y e p E F G a small h.most) (product-most D z y e p E (q * (g * D)) low floor);
+        above (E * e) (D * (y * (p * E))) (y * F) (y * G) (c - q) (omega arith) (scaled_least D y e p E F G l small h.least)
+        (product_least D z y e s p b E (q * (g * D) + g * D) high up ceiling);
+    least = under (E * e) (D * (y * (p * E))) (y * F) (y * G) (c - q) (omega arith) (scaled_most D y e p E F G a small h.most) (product_most D z y e p E (q * (g * D)) low floor);
   }
     where
       above : (X M A B r : ℕ) → r + q ≡ c → D * A ≤ M + D * B + l * X → M ≤ (q * (g * D) + g * D + s * b) * X → D * (g * r * X + A) ≤ D * (g * c * X + B) + (l + g * D + s * b) * X
@@ -67,9 +67,9 @@ module _ (D z y e s : ℕ) (low : z * e ≤ y * D) (high : y * D ≤ (z + s) * e
       under X M A B r same i j = omega (arith, ap (λ (n : ℕ). D * g * X * n) same)
 
 -- it is at most its first coefficient
-pub alternating-most : (D c : ℕ) (cs : List ℕ) (z : ℕ) → alternating D (c ∷ cs) z ≤ c
+pub alternating_most : (D c : ℕ) (cs : List ℕ) (z : ℕ) → alternating D (c ∷ cs) z ≤ c
 unfolding alternating
-alternating-most D c cs z = omega arith
+alternating_most D c cs z = omega arith
 
 -- no steps at all
 pub alternating-one : (D c z : ℕ) → alternating D (c ∷ []) z ≡ c
@@ -82,13 +82,13 @@ unfolding alternating
 alternating_step D z c cs h e = e ∙ ap (λ (p : ℕ). c - p * z / D) h
 
 module _ (n c : ℕ) (cs : List ℕ) (y e : ℕ) where
-  plus-value : value (suc n) (signed true (c ∷ cs)) y e ≡ 1 * c * (e ^ n * e) + y * value n (signed false cs) y e
+  plus_value : value (suc n) (signed true (c ∷ cs)) y e ≡ 1 * c * (e ^ n * e) + y * value n (signed false cs) y e
   unfolding signed value
-  plus-value = rw pow-suc (omega arith)
+  plus_value = rw pow-suc (omega arith)
 
-  minus-value : value (suc n) (signed false (c ∷ cs)) y e ≡ y * value n (signed true cs) y e
+  minus_value : value (suc n) (signed false (c ∷ cs)) y e ≡ y * value n (signed true cs) y e
   unfolding signed value
-  minus-value = omega arith
+  minus_value = omega arith
 
   plus_one : value n (signed true (c ∷ [])) y e ≡ c * e ^ n
   unfolding signed value
@@ -115,10 +115,10 @@ module _ (D z y e s : ℕ) (pos : 0 < D) (low : z * e ≤ y * D) (high : y * D �
   alternating_close zero (c ∷ b ∷ cs) fits t = absurd (omega arith)
   alternating_close (suc n) (c ∷ b ∷ cs) fits t =
       let p = alternating D (b ∷ cs) z in
-      let up : p ≤ b = alternating-most D b cs z in
+      let up : p ≤ b = alternating_most D b cs z in
       let less : b ≤ c = leb→le b c (and_l (leb b c) (falling (b ∷ cs)) t) in
       let before = alternating_close n (b ∷ cs) (le_of_suc-le-suc fits) (and_r (leb b c) (falling (b ∷ cs)) t) in
-      rw (plus-value n c (b ∷ cs) y e, minus-value n c (b ∷ cs) y e, pow-suc e n)
+      rw (plus_value n c (b ∷ cs) y e, minus_value n c (b ∷ cs) y e, pow-suc e n)
       (subst (λ (r : ℕ). Close D r (e ^ n * e) (1 * c * (e ^ n * e) + y * value n (signed false (b ∷ cs)) y e) (y * value n (signed true (b ∷ cs)) y e) ((loss D s (b ∷ cs)).1 + 1 * D + s * b) (loss D s (b ∷ cs)).0) (one-mul (c - p * z / D))
       (close_step D z y e s low high small 1 c b (p * z / D) before up (le_trans (taken p) (le_trans up less))
       (rw one-mul (div-mul-le_self (p * z) D)) (rw one-mul (le_of_lt (lt-div-mul-add pos)))))

@@ -10,7 +10,7 @@ use lib.Pow.{pow-add}
 use Rattle.exact.specs.Polynomial.{value}
 use Rattle.exact.proofs.Power.{mul-pow, pow-one}
 use Rattle.fixed.specs.Horner.{horner, alternate, others, chains}
-use Rattle.fixed.proofs.Horner.{quotients, horner_mono, horner-first}
+use Rattle.fixed.proofs.Horner.{quotients, horner_mono, horner_first}
 
 -- ---- a polynomial by its two halves
 -- the first half begins with the first coefficient, and goes on as the second half of the others
@@ -67,10 +67,10 @@ altogether [] = 0
 altogether (c ∷ cs) = c + altogether cs
 
 -- which no value up to 1 exceeds
-pub horner-most : (D z : ℕ) → 0 < D → z ≤ D → (cs : List ℕ) → horner D cs z ≤ altogether cs
+pub horner_most : (D z : ℕ) → 0 < D → z ≤ D → (cs : List ℕ) → horner D cs z ≤ altogether cs
 unfolding horner altogether
-horner-most D z pos small [] = le_refl 0
-horner-most D z pos small (c ∷ cs) = omega (arith, floor (horner D cs z) (horner D cs z * z / D) (div-mul-le_self (horner D cs z * z) D), horner-most D z pos small cs)
+horner_most D z pos small [] = le_refl 0
+horner_most D z pos small (c ∷ cs) = omega (arith, floor (horner D cs z) (horner D cs z * z / D) (div-mul-le_self (horner D cs z * z) D), horner_most D z pos small cs)
   where
     floor : (h t : ℕ) → t * D ≤ h * z → t ≤ h
     floor h t a = le_of_mul-le-mul_right (omega (arith, mul-le-mul_left h small)) pos
@@ -93,7 +93,7 @@ cut_above D z y e pos small part high zero (c ∷ b ∷ cs) fits = absurd (omega
 cut_above D z y e pos small part high (suc n) (c ∷ b ∷ cs) fits =
     rw pow-suc
     (through (horner D (b ∷ cs) z) (horner D (b ∷ cs) z * z / D) (loss D (b ∷ cs)) (altogether (b ∷ cs)) (e ^ n) (value n (b ∷ cs) y e)
-    (le_of_lt (lt-div-mul-add pos)) (horner-most D z pos small (b ∷ cs)) (cut_above D z y e pos small part high n (b ∷ cs) (le_of_suc-le-suc fits)))
+    (le_of_lt (lt-div-mul-add pos)) (horner_most D z pos small (b ∷ cs)) (cut_above D z y e pos small part high n (b ∷ cs) (le_of_suc-le-suc fits)))
   where
     through : (h t L A E v : ℕ) → h * z ≤ t * D + D → h ≤ A → D * v ≤ (D * h + L) * E → D * (c * (E * e) + y * v) ≤ (D * (c + t) + (L + D + A)) * (E * e)
     through h t L A E v a s i = omega (arith, mul-le-mul_left y i, mul-le-mul_right (h * E) high, mul-le-mul_right (L * E) part, mul-le-mul_right (E * e) a, mul-le-mul_right (E * e) s)
@@ -164,7 +164,7 @@ module _ (D : ℕ) (pos : 0 < D) (m c : ℕ) (cs : List ℕ) (fits : length cs �
         let few : z ≤ D = le_of_mul-le-mul_right (le_trans (div-mul-le_self (f * f) D) part) pos in
         rw (whole f, unit)
         (through ((f * p + z * q) / D) p q z ((D * D) ^ m) (value m (alternate cs) (f * f) (D * D)) (value m (others cs) (f * f) (D * D)) (loss D (alternate cs)) (loss D (others cs)) (altogether (others cs))
-        (le_of_lt (lt-div-mul-add pos)) (le_of_lt (lt-div-mul-add pos)) (horner-most D z pos few (others cs))
+        (le_of_lt (lt-div-mul-add pos)) (le_of_lt (lt-div-mul-add pos)) (horner_most D z pos few (others cs))
         (cut_above D z (f * f) (D * D) pos few part high m (alternate cs) l) (cut_above D z (f * f) (D * D) pos few part high m (others cs) k))
       where
         through : (t p q z K A B M N G : ℕ) → f * p + z * q ≤ t * D + D → f * f ≤ z * D + D → q ≤ G → D * A ≤ (D * p + M) * K → D * B ≤ (D * q + N) * K
@@ -197,7 +197,7 @@ chains-zero D c cs = simp (zero-mul, zero-div) (omega (arith, zero-div D))
 -- they are at least the first term of each half
 pub chains_rises : (D c b : ℕ) (cs : List ℕ) (f : ℕ) → 0 < D → c + f * b / D ≤ chains D (c ∷ b ∷ cs) f
 unfolding chains
-chains_rises D c b cs f pos = rw (first_half b cs) (more (quotients D pos (le_trans (mul-le-mul_left f (horner-first D b (others cs) (f * f / D))) (extra _ _))))
+chains_rises D c b cs f pos = rw (first_half b cs) (more (quotients D pos (le_trans (mul-le-mul_left f (horner_first D b (others cs) (f * f / D))) (extra _ _))))
   where
     more : {a b : ℕ} → a ≤ b → c + a ≤ c + b
     more l = omega arith

@@ -26,14 +26,14 @@ module _ (r b d : ℕ) (less : r < d) (digit : b < 65536) where
       through (r / (d / 65536 + 1)) (d / 65536) (div-mul-le_self r (d / 65536 + 1)) (lt-div-mul-add {a = r} {b = d / 65536 + 1} (omega arith)) (div-mul-le_self d 65536)
       (le_of_lt (lt-div-mul-add {a = d} {b = 65536} (omega arith)))
     where
-      not-above : (q h : ℕ) → q * (h + 1) ≤ r → d ≤ h * 65536 + 65536 → q * d ≤ r * 65536 + b
-      not-above q h k l = omega (arith, mul-le-mul_left q l)
+      not_above : (q h : ℕ) → q * (h + 1) ≤ r → d ≤ h * 65536 + 65536 → q * d ≤ r * 65536 + b
+      not_above q h k l = omega (arith, mul-le-mul_left q l)
 
       close_below : (q h : ℕ) → q < 65536 → r < q * (h + 1) + (h + 1) → h * 65536 ≤ d → r * 65536 + b < q * d + 3 * d
       close_below q h s m o = omega (arith, mul-le-mul_left (q + 1) o)
 
       through : (q h : ℕ) → q * (h + 1) ≤ r → r < q * (h + 1) + (h + 1) → h * 65536 ≤ d → d ≤ h * 65536 + 65536 → Tried r b d q
-      through q h k m o l = let n = not-above q h k l in record { most = n; least = close_below q h (one_digit q n) m o; small = one_digit q n }
+      through q h k m o l = let n = not_above q h k l in record { most = n; least = close_below q h (one_digit q n) m o; small = one_digit q n }
 
   -- the quotient is a digit
   pub is_digit : (q s : ℕ) → IsQuotient (r * 65536 + b) d q s → IsQuotient (r * 65536 + b) d q s × (q < 65536)

@@ -62,5 +62,5 @@ module _ (x : Float) (h : Number x) where
   top_bit = both.0
 
   -- the size
-  pub size-bits : Normal x (bits % 2147483648) ⊎ Subnormal x (bits % 2147483648)
-  size-bits = both.1
+  pub size_bits_lem : Normal x (bits % 2147483648) ⊎ Subnormal x (bits % 2147483648)
+  size_bits_lem = both.1

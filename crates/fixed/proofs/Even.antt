@@ -19,9 +19,9 @@ use Rattle.fixed.specs.Rounded.{Normal, even_digits, even_bits}
 use Rattle.fixed.proofs.Rounding.{Placed, placed, few_zeros, some}
 
 -- the digits are the whole number nearest to m / 2 ^ 39: with w whole ones, a tie is w and a half, and the digit t that is added decides
-pub even-digits : (m : ℕ) → even_digits m ≡ closest m (2 ^ 39)
+pub even_digits_lem : (m : ℕ) → even_digits m ≡ closest m (2 ^ 39)
 unfolding even_digits
-even-digits m =
+even_digits_lem m =
     closest_only m (2 ^ 39) (even_digits m) (lit< tt)
     (record { half = record { at_most = omega arith; at_least = omega arith }; tie_up = up (m / 549755813888) (m / 549755813888 % 2) (even_digits m) refl refl refl; tie_down = down (m / 549755813888) (m / 549755813888 % 2) (even_digits m) refl refl refl })
   where
@@ -64,26 +64,26 @@ module _ (n e z : ℕ) (p : Placed n z) (few : z ≤ e) (less : n < 2 ^ 63) wher
       sub-add-one : {k : ℕ} → 1 ≤ k → suc (k - 1) ≡ k
       sub-add-one h = omega arith
 
-  pub shifted-low : 2 ^ 62 ≤ m
-  shifted-low = let a = p.low in let b = doubled in omega arith
+  pub shifted_low : 2 ^ 62 ≤ m
+  shifted_low = let a = p.low in let b = doubled in omega arith
 
-  pub shifted-high : m < 2 ^ 63
-  shifted-high = let a = p.high in let b = doubled in omega arith
+  pub shifted_high : m < 2 ^ 63
+  shifted_high = let a = p.high in let b = doubled in omega arith
 
   abbrev S : ℕ
   S = even_digits m
 
-  digits-least : 2 ^ 23 ≤ S
+  digits_least : 2 ^ 23 ≤ S
   unfolding even_digits
-  digits-least = let a = shifted-low in omega arith
+  digits_least = let a = shifted_low in omega arith
 
-  digits-most : S ≤ 2 ^ 24
+  digits_most : S ≤ 2 ^ 24
   unfolding even_digits
-  digits-most = let a = shifted-high in omega arith
+  digits_most = let a = shifted_high in omega arith
 
   -- they are those of n * 2 ^ (e - 40) rounded
   rounded : S * 2 ^ (e - z) ≡ rnd (n * 2 ^ e) (2 ^ 40)
-  rounded = ap (λ (q : ℕ). q * 2 ^ (e - z)) (even-digits m ∙ closest_same m (2 ^ 39) (n * 2 ^ e) (2 ^ 40 * 2 ^ (e - z)) (lit< tt) (mul-pos (pow_pos 40) (pow_pos (e - z))) (same (2 ^ (e - z)) exact)) ∙ sym (rnd_at (n * 2 ^ e) (2 ^ 40) (e - z) (pow_pos 40) (top (2 ^ (e - z)) (pow_pos (e - z)) exact) (λ h. bottom (2 ^ (e - z)) exact))
+  rounded = ap (λ (q : ℕ). q * 2 ^ (e - z)) (even_digits_lem m ∙ closest_same m (2 ^ 39) (n * 2 ^ e) (2 ^ 40 * 2 ^ (e - z)) (lit< tt) (mul-pos (pow_pos 40) (pow_pos (e - z))) (same (2 ^ (e - z)) exact)) ∙ sym (rnd_at (n * 2 ^ e) (2 ^ 40) (e - z) (pow_pos 40) (top (2 ^ (e - z)) (pow_pos (e - z)) exact) (λ h. bottom (2 ^ (e - z)) exact))
     where
       exact : n * 2 ^ e ≡ m * 2 * 2 ^ (e - z)
       exact = let h : e ≡ z + (e - z) = omega arith in ap (λ (i : ℕ). n * 2 ^ i) h ∙ ap (λ (i : ℕ). n * i) (pow-add 2 z (e - z)) ∙ sym (mul_assoc n (2 ^ z) (2 ^ (e - z))) ∙ ap (λ (i : ℕ). i * 2 ^ (e - z)) (sym doubled)
@@ -92,41 +92,41 @@ module _ (n e z : ℕ) (p : Placed n z) (few : z ≤ e) (less : n < 2 ^ 63) wher
       same g h = omega arith
 
       top : {x : ℕ} (g : ℕ) → 0 < g → x ≡ m * 2 * g → x < 2 ^ 24 * g * 2 ^ 40
-      top g pos h = let a : m * g < 2 ^ 63 * g = mul-lt-mul_of_pos_right shifted-high pos in omega arith
+      top g pos h = let a : m * g < 2 ^ 63 * g = mul-lt-mul_of_pos_right shifted_high pos in omega arith
 
       bottom : {x : ℕ} (g : ℕ) → x ≡ m * 2 * g → 2 ^ 23 * g * 2 ^ 40 ≤ x
-      bottom g h = let a : 2 ^ 62 * g ≤ m * g = mul-le-mul_right g shifted-low in omega arith
+      bottom g h = let a : 2 ^ 62 * g ≤ m * g = mul-le-mul_right g shifted_low in omega arith
 
   -- the pattern, with the sign s
   pub even_put : e ≤ 252 → (s : Bool) → Is (of_bits binary32 (sign_bit s + ((e - z) * 8388608 + S))) s (rnd (n * 2 ^ e) (2 ^ 40))
   even_put top s =
-      let h = digits-most in
+      let h = digits_most in
       let o = one-zero in
-      subst (λ (u : ℕ). Is (of_bits binary32 (sign_bit s + ((e - z) * 8388608 + S))) s u) rounded (put s S (e - z) (inr digits-least) h (omega arith))
+      subst (λ (u : ℕ). Is (of_bits binary32 (sign_bit s + ((e - z) * 8388608 + S))) s u) rounded (put s S (e - z) (inr digits_least) h (omega arith))
 
   -- lies below the infinity's
-  pub even-below : e ≤ 252 → (e - z) * 8388608 + S < 255 * 8388608
-  even-below top = let h = digits-most in let o = one-zero in omega arith
+  pub even_below : e ≤ 252 → (e - z) * 8388608 + S < 255 * 8388608
+  even_below top = let h = digits_most in let o = one-zero in omega arith
 
 -- ---- the same of the function, for n above 0
 module _ (n e : ℕ) (pos : 0 < n) (less : n < 2 ^ 63) (h : Normal n e) where
   pub even_zeros : Placed n (count_leading_zeros 64 n)
   even_zeros = placed n pos (omega arith)
 
-  pub even-few : count_leading_zeros 64 n ≤ e
-  even-few = few_zeros n (count_leading_zeros 64 n) e even_zeros (h.least pos)
+  pub even_few : count_leading_zeros 64 n ≤ e
+  even_few = few_zeros n (count_leading_zeros 64 n) e even_zeros (h.least pos)
 
   some_bits : even_bits n e ≡ (e - count_leading_zeros 64 n) * 8388608 + even_digits (n * 2 ^ (count_leading_zeros 64 n - 1))
   unfolding even_bits
   some_bits = rw (some n e pos)
 
   pub even_is : (s : Bool) → Is (of_bits binary32 (sign_bit s + even_bits n e)) s (rnd (n * 2 ^ e) (2 ^ 40))
-  even_is s = rw some_bits (even_put n e (count_leading_zeros 64 n) even_zeros even-few less h.most s)
+  even_is s = rw some_bits (even_put n e (count_leading_zeros 64 n) even_zeros even_few less h.most s)
 
   pub bits_below : even_bits n e < 255 * 8388608
-  bits_below = rw some_bits (even-below n e (count_leading_zeros 64 n) even_zeros even-few less h.most)
+  bits_below = rw some_bits (even_below n e (count_leading_zeros 64 n) even_zeros even_few less h.most)
 
 -- of 0 it is the pattern of +0
-pub even-zero : (n e : ℕ) → n ≡ 0 → even_bits n e ≡ 0
+pub even_zero : (n e : ℕ) → n ≡ 0 → even_bits n e ≡ 0
 unfolding even_bits
-even-zero n e h = rw (eq-eqb n 0 h)
+even_zero n e h = rw (eq-eqb n 0 h)

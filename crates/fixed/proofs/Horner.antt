@@ -26,9 +26,9 @@ unfolding horner
 horner_step D f c cs h e = e ∙ ap (λ (p : ℕ). c + p * f / D) h
 
 -- it is at least its first coefficient
-pub horner-first : (D c : ℕ) (cs : List ℕ) (f : ℕ) → c ≤ horner D (c ∷ cs) f
+pub horner_first : (D c : ℕ) (cs : List ℕ) (f : ℕ) → c ≤ horner D (c ∷ cs) f
 unfolding horner
-horner-first D c cs f = omega arith
+horner_first D c cs f = omega arith
 
 -- ---- order
 

@@ -114,14 +114,14 @@ module _ (n z : ℕ) (p : Placed n z) where
   S = nearest_digits n z
 
   -- there are 24 of them
-  pub digits-least : 2 ^ 23 ≤ S
+  pub digits_least : 2 ^ 23 ≤ S
   unfolding nearest_digits
-  digits-least = let l = p.low in omega arith
+  digits_least = let l = p.low in omega arith
 
   -- or a carry
-  pub digits-most : S ≤ 2 ^ 24
+  pub digits_most : S ≤ 2 ^ 24
   unfolding nearest_digits
-  digits-most = let h = p.high in omega arith
+  digits_most = let h = p.high in omega arith
 
   -- at most half a digit off
   upward : S * 2 ^ 40 ≤ n * 2 ^ z + 2 ^ 39
@@ -133,9 +133,9 @@ module _ (n z : ℕ) (p : Placed n z) where
   downward = omega arith
 
   -- none off where n is of 24 digits and zeros
-  digits-whole : (c j : ℕ) → n ≡ c * 2 ^ j → c < 2 ^ 24 → S * 2 ^ 40 ≡ n * 2 ^ z
+  digits_whole : (c j : ℕ) → n ≡ c * 2 ^ j → c < 2 ^ 24 → S * 2 ^ 40 ≡ n * 2 ^ z
   unfolding nearest_digits
-  digits-whole c j e few = even (n * 2 ^ z) (c * 2 ^ (j + z - 40)) (rw e (mul_assoc c (2 ^ j) (2 ^ z)) ∙ ap (λ (i : ℕ). c * i) split ∙ sym (mul_assoc c (2 ^ (j + z - 40)) (2 ^ 40)))
+  digits_whole c j e few = even (n * 2 ^ z) (c * 2 ^ (j + z - 40)) (rw e (mul_assoc c (2 ^ j) (2 ^ z)) ∙ ap (λ (i : ℕ). c * i) split ∙ sym (mul_assoc c (2 ^ (j + z - 40)) (2 ^ 40)))
     where
       places : 40 ≤ j + z
       places = elim (le-or-lt 40 (j + z)) [
@@ -218,23 +218,23 @@ module _ (n e z : ℕ) (p : Placed n z) (few : z ≤ e) where
       through : (S R g H : ℕ) → S * 2 ^ 40 ≤ R + 2 ^ 39 → 2 ^ 39 * g ≤ H → S * g * 2 ^ 40 ≤ R * g + H
       through S R g H h l = omega (arith, mul-le-mul_right g h)
 
-  below-most : (k : ℕ) → n < 2 ^ k → n * 2 ^ e ≤ nearest_digits n z * G * 2 ^ 40 + 2 ^ (e + k - 25)
-  below-most k l = rw exact_units (through (nearest_digits n z) (n * 2 ^ z) G (2 ^ (e + k - 25)) (downward n z p) (half k l))
+  below_most : (k : ℕ) → n < 2 ^ k → n * 2 ^ e ≤ nearest_digits n z * G * 2 ^ 40 + 2 ^ (e + k - 25)
+  below_most k l = rw exact_units (through (nearest_digits n z) (n * 2 ^ z) G (2 ^ (e + k - 25)) (downward n z p) (half k l))
     where
       through : (S R g H : ℕ) → R ≤ S * 2 ^ 40 + 2 ^ 39 → 2 ^ 39 * g ≤ H → R * g ≤ S * g * 2 ^ 40 + H
       through S R g H h l = omega (arith, mul-le-mul_right g h)
 
   units_whole : (c j : ℕ) → n ≡ c * 2 ^ j → c < 2 ^ 24 → nearest_digits n z * G * 2 ^ 40 ≡ n * 2 ^ e
-  units_whole c j h l = swap ∙ ap (λ (i : ℕ). i * G) (digits-whole n z p c j h l) ∙ sym exact_units
+  units_whole c j h l = swap ∙ ap (λ (i : ℕ). i * G) (digits_whole n z p c j h l) ∙ sym exact_units
 
 -- ---- order
-digits-order : (n n' z z' : ℕ) → n * 2 ^ z ≤ n' * 2 ^ z' → nearest_digits n z ≤ nearest_digits n' z'
+digits_order : (n n' z z' : ℕ) → n * 2 ^ z ≤ n' * 2 ^ z' → nearest_digits n z ≤ nearest_digits n' z'
 unfolding nearest_digits
-digits-order n n' z z' l = omega arith
+digits_order n n' z z' l = omega arith
 
 module _ (n e z : ℕ) (p : Placed n z) (few : z ≤ e) (n' e''' z' : ℕ) (p' : Placed n' z') (few' : z' ≤ e''') (l : n * 2 ^ e ≤ n' * 2 ^ e''') where
-  same-places : n * 2 ^ z * 2 ^ (e - z) ≤ n' * 2 ^ z' * 2 ^ (e''' - z')
-  same-places = rw (exact_units n e z p few, exact_units n' e''' z' p' few') at l
+  same_places : n * 2 ^ z * 2 ^ (e - z) ≤ n' * 2 ^ z' * 2 ^ (e''' - z')
+  same_places = rw (exact_units n e z p few, exact_units n' e''' z' p' few') at l
 
   -- the larger number does not have the smaller exponent
   exponents : e - z ≤ e''' - z'
@@ -242,7 +242,7 @@ module _ (n e z : ℕ) (p : Placed n z) (few : z ≤ e) (n' e''' z' : ℕ) (p' :
     | inl h ↦ h
     | inr h ↦
         let twice : 2 ^ (e''' - z') * 2 ≤ 2 ^ (e - z) = le_trans (le_of_eq (sym (pow-suc 2 (e''' - z')))) (pow_mono h) in
-        absurd (apart (2 ^ 63) (n * 2 ^ z) (2 ^ (e - z)) (n' * 2 ^ z') (2 ^ (e''' - z')) p.low p'.high (pow_pos (e''' - z')) twice same-places)
+        absurd (apart (2 ^ 63) (n * 2 ^ z) (2 ^ (e - z)) (n' * 2 ^ z') (2 ^ (e''' - z')) p.low p'.high (pow_pos (e''' - z')) twice same_places)
   ]
     where
       apart : (K R g R' g' : ℕ) → K ≤ R → R' < K * 2 → 0 < g' → g' * 2 ≤ g → R * g ≤ R' * g' → ⊥
@@ -251,11 +251,11 @@ module _ (n e z : ℕ) (p : Placed n z) (few : z ≤ e) (n' e''' z' : ℕ) (p' :
   placed_order : nearest_digits n z * 2 ^ (e - z) ≤ nearest_digits n' z' * 2 ^ (e''' - z')
   placed_order = elim (eq-or-lt_of_le exponents) [
     | inl h ↦
-        let k : n * 2 ^ z ≤ n' * 2 ^ z' = le_of_mul-le-mul_right (subst (λ (i : ℕ). n * 2 ^ z * 2 ^ (e - z) ≤ n' * 2 ^ z' * 2 ^ i) (sym h) same-places) (pow_pos (e - z)) in
-        subst (λ (i : ℕ). nearest_digits n z * 2 ^ (e - z) ≤ nearest_digits n' z' * 2 ^ i) h (mul-le-mul_right (2 ^ (e - z)) (digits-order n n' z z' k))
+        let k : n * 2 ^ z ≤ n' * 2 ^ z' = le_of_mul-le-mul_right (subst (λ (i : ℕ). n * 2 ^ z * 2 ^ (e - z) ≤ n' * 2 ^ z' * 2 ^ i) (sym h) same_places) (pow_pos (e - z)) in
+        subst (λ (i : ℕ). nearest_digits n z * 2 ^ (e - z) ≤ nearest_digits n' z' * 2 ^ i) h (mul-le-mul_right (2 ^ (e - z)) (digits_order n n' z z' k))
     | inr h ↦
-        le_trans (mul-le-mul_right (2 ^ (e - z)) (digits-most n z p))
-        (le_trans (step (e - z) (e''' - z') h) (mul-le-mul_right (2 ^ (e''' - z')) (digits-least n' z' p')))
+        le_trans (mul-le-mul_right (2 ^ (e - z)) (digits_most n z p))
+        (le_trans (step (e - z) (e''' - z') h) (mul-le-mul_right (2 ^ (e''' - z')) (digits_least n' z' p')))
   ]
 
 -- ---- laws of any number of at most 64 digits, zero or a normal float's
@@ -268,15 +268,15 @@ module _ (n e : ℕ) (short : n < 2 ^ 64) (normal : Normal n e) where
   fits h = few_zeros n z e (placed n h short) (normal.least h)
 
   -- the units of the float are within one part in 2 ^ 24 of the number, from above
-  pub near-most : units_of n e * 2 ^ 64 ≤ n * 2 ^ e * (2 ^ 24 + 1)
-  near-most = elim (eq-zero-or-pos n) [
+  pub near_most : units_of n e * 2 ^ 64 ≤ n * 2 ^ e * (2 ^ 24 + 1)
+  near_most = elim (eq-zero-or-pos n) [
     | inl h ↦ rw (zero_units n e h) zero-le
     | inr h ↦ rw (some_units n e h) (units_most n e z (placed n h short) (fits h))
   ]
 
   -- from below
-  pub near-least : n * 2 ^ e * (2 ^ 24 - 1) ≤ units_of n e * 2 ^ 64
-  near-least = elim (eq-zero-or-pos n) [
+  pub near_least : n * 2 ^ e * (2 ^ 24 - 1) ≤ units_of n e * 2 ^ 64
+  near_least = elim (eq-zero-or-pos n) [
     | inl h ↦ rw (h, zero-mul, zero-mul) zero-le
     | inr h ↦ rw (some_units n e h) (units_least n e z (placed n h short) (fits h))
   ]
@@ -292,7 +292,7 @@ module _ (n e : ℕ) (short : n < 2 ^ 64) (normal : Normal n e) where
   pub half_least : (k : ℕ) → n < 2 ^ k → n * 2 ^ e ≤ units_of n e * 2 ^ 40 + 2 ^ (e + k - 25)
   half_least k l = elim (eq-zero-or-pos n) [
     | inl h ↦ rw (h, zero-mul) zero-le
-    | inr h ↦ rw (some_units n e h) (below-most n e z (placed n h short) (fits h) k l)
+    | inr h ↦ rw (some_units n e h) (below_most n e z (placed n h short) (fits h) k l)
   ]
 
   -- 24 digits and zeros are exact
@@ -303,14 +303,14 @@ module _ (n e : ℕ) (short : n < 2 ^ 64) (normal : Normal n e) where
   ]
 
   below_infinity : 0 < n → (e - z) * 8388608 + nearest_digits n z < 255 * 8388608
-  below_infinity h = let most = digits-most n z (placed n h short) in let top = normal.most in omega arith
+  below_infinity h = let most = digits_most n z (placed n h short) in let top = normal.most in omega arith
 
   -- the pattern is that of the float of these units, with either sign
   pub is_units : (s : Bool) → 0 < n → Is (of_bits binary32 (sign_bit s + nearest_bits n e)) s (units_of n e)
   unfolding nearest_bits
   is_units s h =
       let p = placed n h short in
-      rw (some n e h, some_units n e h) (put s (nearest_digits n z) (e - z) (inr (digits-least n z p)) (digits-most n z p) (below_infinity h))
+      rw (some n e h, some_units n e h) (put s (nearest_digits n z) (e - z) (inr (digits_least n z p)) (digits_most n z p) (below_infinity h))
 
   -- with the plus sign, of zero too
   pub is_positive : Is (of_bits binary32 (nearest_bits n e)) false (units_of n e)

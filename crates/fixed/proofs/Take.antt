@@ -56,8 +56,8 @@ module _ (b : ℕ) (above : 0 < b) (low : b < 2 ^ 23) where
   shifted_least : 2 ^ 23 ≤ b * 2 ^ shift
   shifted_least = let (j, e, l, h, z) = place in le_trans (le_of_eq (ap (λ (n : ℕ). 2 ^ n) (sym e) ∙ pow-add 2 j shift)) (mul-le-mul_right (2 ^ shift) l)
 
-  shifted-digits : b * 2 ^ shift < 2 ^ 24
-  shifted-digits =
+  shifted_digits : b * 2 ^ shift < 2 ^ 24
+  shifted_digits =
       let (j, e, l, h, z) = place in
       let c : suc j + shift ≡ 24 = omega arith in
       lt_of_lt_of_le (mul-lt-mul_of_pos_right h (pow_pos shift)) (le_of_eq (sym (pow-add 2 (suc j) shift) ∙ ap (λ (n : ℕ). 2 ^ n) c))
@@ -65,13 +65,13 @@ module _ (b : ℕ) (above : 0 < b) (low : b < 2 ^ 23) where
   apart_units : (x : Float) → mag x ≡ b → Apart x (b * 2 ^ shift % 4294967296) (24 - shift)
   apart_units x u =
       let small = shift_small in
-      let whole : b * 2 ^ shift % 4294967296 ≡ b * 2 ^ shift = mod-eq_of_lt (lt_of_lt_of_le shifted-digits (pow_mono {i = 24} {j = 32} (omega arith))) in
+      let whole : b * 2 ^ shift % 4294967296 ≡ b * 2 ^ shift = mod-eq_of_lt (lt_of_lt_of_le shifted_digits (pow_mono {i = 24} {j = 32} (omega arith))) in
       let e : 24 ≡ shift + (24 - shift) = omega arith in
       subst (λ (m : ℕ). Apart x m (24 - shift)) (sym whole)
       (record {
         same = ap (λ (n : ℕ). n * 2 ^ 24) u ∙ ap (λ (n : ℕ). b * 2 ^ n) e ∙ ap (λ (n : ℕ). b * n) (pow-add 2 shift (24 - shift)) ∙ sym (mul_assoc b (2 ^ shift) (2 ^ (24 - shift)));
         least = shifted_least;
-        digits = shifted-digits;
+        digits = shifted_digits;
         low = omega arith;
         high = omega arith;
       })
@@ -84,8 +84,8 @@ module _ (x : Float) (p : Positive x) where
   plain : (n : ℕ) → sign_bit (negative x) + n ≡ n
   plain n = ap (λ (s : Bool). sign_bit s + n) p.sign ∙ zero-add n
 
-  low-is : b < 2 ^ 23 → mag x ≡ b
-  low-is h = go (le-or-lt (2 ^ 23) (mag x))
+  low_is : b < 2 ^ 23 → mag x ≡ b
+  low_is h = go (le-or-lt (2 ^ 23) (mag x))
     where
       go : (2 ^ 23 ≤ mag x) ⊎ (mag x < 2 ^ 23) → mag x ≡ b
       go (inl l) =
@@ -95,7 +95,7 @@ module _ (x : Float) (p : Positive x) where
       go (inr l) = sym (pattern_subnormal x p.number l ∙ plain (mag x))
 
   units_above : b < 2 ^ 23 → 0 < b
-  units_above h = lt_of_lt_of_le p.above (le_of_eq (low-is h))
+  units_above h = lt_of_lt_of_le p.above (le_of_eq (low_is h))
 
   pub leading_low : b < 2 ^ 23 → 8 ≤ count_leading_zeros 32 b
   leading_low h = leading b (units_above h) h
@@ -104,15 +104,15 @@ module _ (x : Float) (p : Positive x) where
   shift_low h = shift_small b (units_above h) h
 
   pub apart_low : b < 2 ^ 23 → Apart x (b * 2 ^ (count_leading_zeros 32 b - 8) % 4294967296) (24 - (count_leading_zeros 32 b - 8))
-  apart_low h = apart_units b (units_above h) h x (low-is h)
+  apart_low h = apart_units b (units_above h) h x (low_is h)
 
   exponent_in : (k m : ℕ) → 2 ^ 23 ≤ m → m * 2 ^ k < 2 ^ 277 → k < 254
   exponent_in k m l h =
       let c : 23 + k < 277 = pow_back_lt (23 + k) 277 (lt_of_le_of_lt (le_trans (le_of_eq (pow-add 2 23 k)) (mul-le-mul_right (2 ^ k) l)) h) in
       omega arith
 
-  pub apart-high : 2 ^ 23 ≤ b → Apart x (b % 8388608 + 8388608) (b / 8388608 + 23)
-  apart-high h = go (le-or-lt (2 ^ 23) (mag x))
+  pub apart_high : 2 ^ 23 ≤ b → Apart x (b % 8388608 + 8388608) (b / 8388608 + 23)
+  apart_high h = go (le-or-lt (2 ^ 23) (mag x))
     where
       go : (2 ^ 23 ≤ mag x) ⊎ (mag x < 2 ^ 23) → Apart x (b % 8388608 + 8388608) (b / 8388608 + 23)
       go (inl l) =
@@ -138,7 +138,7 @@ module _ (x : Float) (p : Positive x) where
 -- ---- the parts of a float are its own: two ways to take it apart agree
 pub unique : (x : Float) (m e : ℕ) → Apart x m e → (e ≡ exponent x) × (m ≡ significand x)
 unfolding exponent significand
-unique x m e a = (is-size, sym (ap (λ (n : ℕ). n / 2 ^ size (mag x)) a.same ∙ ap (λ (n : ℕ). m * 2 ^ e / 2 ^ n) (sym is-size) ∙ mul-div_cancel m (pow_pos e)))
+unique x m e a = (is_size, sym (ap (λ (n : ℕ). n / 2 ^ size (mag x)) a.same ∙ ap (λ (n : ℕ). m * 2 ^ e / 2 ^ n) (sym is_size) ∙ mul-div_cancel m (pow_pos e)))
   where
     upper : mag x < 2 ^ e
     upper = lt_of_mul-lt-mul_right (2 ^ 24) (lt_of_le_of_lt (le_of_eq a.same) (lt_of_lt_of_le (mul-lt-mul_of_pos_right a.digits (pow_pos e)) (le_of_eq (mul_comm (2 ^ 24) (2 ^ e)))))
@@ -151,8 +151,8 @@ unique x m e a = (is-size, sym (ap (λ (n : ℕ). n / 2 ^ size (mag x)) a.same �
         (le_trans (le_of_eq (sym (pow-add 2 (e - 1) 24) ∙ ap (λ (n : ℕ). 2 ^ n) (sym c) ∙ pow-add 2 23 e)) (le_trans (mul-le-mul_right (2 ^ e) a.least) (le_of_eq (sym a.same))))
         (pow_pos 24)
 
-    is-size : e ≡ size (mag x)
-    is-size =
+    is_size : e ≡ size (mag x)
+    is_size =
         let l = a.low in
         let h : size (mag x) ≤ e = size-le (mag x) e upper in
         let k : e - 1 < size (mag x) = pow_back_lt (e - 1) (size (mag x)) (lt_of_le_of_lt lower (size-lt (mag x))) in
@@ -166,5 +166,5 @@ own x p = go (le-or-lt (2 ^ 23) (to_bits binary32 x))
     by m e a = let (f, d) = unique x m e a in subst₂ (λ (n k : ℕ). Apart x n k) d f a
 
     go : (2 ^ 23 ≤ to_bits binary32 x) ⊎ (to_bits binary32 x < 2 ^ 23) → Apart x (significand x) (exponent x)
-    go (inl h) = by _ _ (apart-high x p h)
+    go (inl h) = by _ _ (apart_high x p h)
     go (inr h) = by _ _ (apart_low x p h)

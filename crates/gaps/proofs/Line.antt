@@ -6,7 +6,7 @@ use native.Mathlib.Nat.{le_trans, le_dest, one-le-mul, mul-zero, mul-suc, add-ze
 use native.Mathlib.Decide.{dec_le}
 use native.Mathlib.Omega.{arith}
 use Rattle.exact.specs.Power.{AtMost, AtLeast}
-use Rattle.exact.proofs.Power.{most_of_less, least_of_more, most-mul, least-mul}
+use Rattle.exact.proofs.Power.{most_of_less, least_of_more, most_mul, least_mul}
 
 -- pairs among j things
 unfoldable pairs : ℕ → ℕ
@@ -28,7 +28,7 @@ module _ {O Q st p : ℕ} (pos : 0 < O) where
   unfolding pairs
   low_terms {A} c start step zero = rw (mul-zero st, add-zero p) (most_of_less (one-le-mul (one-le-mul pos pos) pos) (omega arith) start)
   low_terms {A} c start step (suc j) =
-      rw (mul-suc st j, ← add_assoc p (st * j) st) (most_of_less (one-le-mul (one-le-mul pos pos) pos) (through (pairs j)) (most-mul (low_terms c start step j) step))
+      rw (mul-suc st j, ← add_assoc p (st * j) st) (most_of_less (one-le-mul (one-le-mul pos pos) pos) (through (pairs j)) (most_mul (low_terms c start step j) step))
     where
       through : (t : ℕ) → A * (O * O + suc j * c * O + (t + j) * c * c) * (O * O * O * O) ≤ A * (O * O + j * c * O + t * c * c) * (O + c) * (O * O * O)
       through t = omega arith
@@ -42,7 +42,7 @@ module _ {O Q st p : ℕ} (pos : 0 < O) where
   high_terms {A} c start step (suc j) small =
       rw (mul-suc st j, ← add_assoc p (st * j) st)
       (least_of_more (one-le-mul (omega arith) (one-le-mul (one-le-mul (one-le-mul pos pos) pos) pos)) (rw (grown (pairs j)) (through (P (pairs j)) Δ (enough (pairs j) (twice_pairs j) (omega arith))))
-      (least-mul (high_terms c start step j (omega arith)) step))
+      (least_mul (high_terms c start step j (omega arith)) step))
     where
       -- the polynomial at j, how much more it is at j + 1, and why that is enough
       P : ℕ → ℕ

@@ -37,12 +37,12 @@ falling (suc k) i two low from to =
 
 -- the powers of two below a number that is not 0
 module _ (q : ℕ) (is : q ≡ 25) where
-  from-powers : (n : ℕ) → n ≤ 25 → (p : ℕ) → 0 < p → p < 2 ^ n → OffFloats p (2 ^ q)
-  from-powers zero fits p pos less = absurd (omega arith)
-  from-powers (suc n) fits p pos less = elim (dec_le (2 ^ n) p) [ yes h ↦ here (le_dest h) | no h ↦ from-powers n (omega arith) p pos (lt_of_not-le h) ]
+  from_powers : (n : ℕ) → n ≤ 25 → (p : ℕ) → 0 < p → p < 2 ^ n → OffFloats p (2 ^ q)
+  from_powers zero fits p pos less = absurd (omega arith)
+  from_powers (suc n) fits p pos less = elim (dec_le (2 ^ n) p) [ yes h ↦ here (le_dest h) | no h ↦ from_powers n (omega arith) p pos (lt_of_not-le h) ]
     where
       here : (j : ℕ) × (2 ^ n + j ≡ p) → OffFloats p (2 ^ q)
       here (j, e) = off p (2 ^ q) (rw (← e, ← one-mul j) (coarse_middles q is n (omega arith) j (omega (arith, pow-suc 2 n))))
 
 pub coarse : CoarseMiddles
-coarse = from-powers 25 refl 25 (omega arith)
+coarse = from_powers 25 refl 25 (omega arith)

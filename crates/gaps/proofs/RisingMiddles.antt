@@ -6,17 +6,17 @@ use lib.Dec.{T, lit≤}
 use lib.Pow.{pow_pos, pow_mono}
 use Rattle.gaps.proofs.Roots.{unit, good}
 use Rattle.gaps.proofs.Check.{Clear}
-use Rattle.gaps.proofs.Starts.{after-root, after-root-near}
+use Rattle.gaps.proofs.Starts.{after_root, after_root_near}
 use Rattle.gaps.proofs.Binades.{spacing, first, second, binade_clear, twice, Every, each, every, and-every}
 
 -- the two halves of the middles from 2 ^ -k on
 unfoldable firsts : ℕ → Bool
-unfolding first after-root
-firsts k = first 0 (2 ^ 75) (k + 23) (after-root unit k 24)
+unfolding first after_root
+firsts k = first 0 (2 ^ 75) (k + 23) (after_root unit k 24)
 
 unfoldable seconds : ℕ → Bool
-unfolding second after-root
-seconds k = second 0 (2 ^ 75) (k + 23) (after-root unit k 24)
+unfolding second after_root
+seconds k = second 0 (2 ^ 75) (k + 23) (after_root unit k 24)
 
 firsts_2 : T (each firsts 1 2)
 unfolding each firsts
@@ -42,6 +42,6 @@ pub rising_middles : (k : ℕ) → 2 ≤ k → k ≤ 23 → Clear unit spacing 0
 unfolding firsts seconds
 rising_middles k pos low =
     binade_clear 0 (2 ^ 75) (2 ^ (k + 24)) 2 (k + 23) (pow_pos (k + 24)) (twice k 23) (omega arith) (omega arith)
-    (after-root unit k 24) 9 (2 ^ 24 + 1) (after-root-near unit (pow_pos 128) 48 good k 24 (omega arith) (omega arith))
+    (after_root unit k 24) 9 (2 ^ 24 + 1) (after_root_near unit (pow_pos 128) 48 good k 24 (omega arith) (omega arith))
     (lit≤ tt) (omega (arith, pow_mono {i = 26} {j = k + 24} (omega arith)))
     (all firsts firsts_2 firsts_3 k pos (omega arith)) (all seconds seconds_2 seconds_3 k pos (omega arith))

@@ -10,7 +10,7 @@ use lib.Ieee.Fits.{and_l, and_r}
 use Rattle.exact.specs.Power.{AtMost, AtLeast}
 use Rattle.exact.proofs.Power.{pow-one}
 use Rattle.gaps.proofs.Stretch.{Near}
-use Rattle.gaps.proofs.Values.{RootOf, root-near}
+use Rattle.gaps.proofs.Values.{RootOf, root_near}
 
 -- Newton's rule from x on towards the root of y, as long as it falls
 unfoldable newton : ℕ → ℕ → ℕ → ℕ
@@ -45,22 +45,22 @@ module _ (O : ℕ) where
     pub least : O ≤ root O i
     pub fits : 0 < i → root O i + 2 ≤ 2 * O
 
-  pub root-suc : (i : ℕ) → next_root O (root O i) ≡ root O (suc i)
+  pub root_suc : (i : ℕ) → next_root O (root O i) ≡ root O (suc i)
   unfolding root
-  root-suc i = refl
+  root_suc i = refl
 
   module _ (pos : 0 < O) where
     -- a root of what is near is near
-    near-suc : (i h x : ℕ) → T (is_root h x) → Near h 2 O 1 (2 ^ i) → Near x 2 O 1 (2 ^ suc i) × (O ≤ x) × (x + 2 ≤ 2 * O)
+    near_suc : (i h x : ℕ) → T (is_root h x) → Near h 2 O 1 (2 ^ i) → Near x 2 O 1 (2 ^ suc i) × (O ≤ x) × (x + 2 ≤ 2 * O)
     unfolding is_root
-    near-suc i h x t near = (rw (pow-suc 2 i, mul_comm (2 ^ i) 2) (root-near pos is-root near), is-root.least, leb→le _ _ (search (and_l, and_r)))
+    near_suc i h x t near = (rw (pow-suc 2 i, mul_comm (2 ^ i) 2) (root_near pos is_root_lem near), is_root_lem.least, leb→le _ _ (search (and_l, and_r)))
       where
-        is-root : RootOf O h x
-        is-root = record { from = leb→le _ _ (search (and_l, and_r)); to = ltb→lt _ _ (search (and_l, and_r)); least = leb→le _ _ (search (and_l, and_r)) }
+        is_root_lem : RootOf O h x
+        is_root_lem = record { from = leb→le _ _ (search (and_l, and_r)); to = ltb→lt _ _ (search (and_l, and_r)); least = leb→le _ _ (search (and_l, and_r)) }
 
     good_suc : (i : ℕ) → T (is_root (root O i) (root O (suc i))) → Good i → Good (suc i)
     good_suc i t good =
-        let (near, least, fits) = near-suc i (root O i) (root O (suc i)) t good.near in
+        let (near, least, fits) = near_suc i (root O i) (root O (suc i)) t good.near in
         record { near = near; least = least; fits = λ p. fits }
 
     -- the first of them, and the others

@@ -16,9 +16,9 @@ beneath O zero = O
 beneath O (suc k) = beneath O k * root O (suc k) / O
 
 -- one step of 2 ^ -(k + d) after 2 ^ -k, and after 1 - 2 ^ -k
-unfoldable pub after-root : (O k d : ℕ) → ℕ
+unfoldable pub after_root : (O k d : ℕ) → ℕ
 unfolding root
-after-root O k d = root O k * root O (k + d) / O
+after_root O k d = root O k * root O (k + d) / O
 
 unfoldable pub after_beneath : (O k d : ℕ) → ℕ
 unfolding beneath root
@@ -61,9 +61,9 @@ module _ (O : ℕ) (opos : 0 < O) (known : ℕ) (good : (i : ℕ) → i ≤ know
   beneath_over k d less = rewritten (pow_pos (k + d)) (rw (pow-add 2 k d) (omega arith)) (beneath_near k less)
 
   module _ (k d : ℕ) (pos : 0 < k) (less : k + d ≤ known) where
-    pub after-root-near : Near (after-root O k d) 9 O (2 ^ d + 1) (2 ^ (k + d))
-    unfolding after-root
-    after-root-near = step_on (k + d) (omega arith) less (pow_mono (omega arith)) (root_over k d (omega arith))
+    pub after_root_near : Near (after_root O k d) 9 O (2 ^ d + 1) (2 ^ (k + d))
+    unfolding after_root
+    after_root_near = step_on (k + d) (omega arith) less (pow_mono (omega arith)) (root_over k d (omega arith))
 
     pub after_beneath_near : Near (after_beneath O k d) (2 * (5 * (2 ^ k - 1)) + 5) O ((2 ^ k - 1) * 2 ^ d + 1) (2 ^ (k + d))
     unfolding after_beneath

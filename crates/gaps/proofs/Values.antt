@@ -4,7 +4,7 @@ use Prim.Native.Nat.{ℕ, suc, ◌+◌, ◌*◌, ◌/◌, ◌≤◌, ◌<◌}
 use native.Mathlib.Nat.{le_trans, le_of_eq, one-le-mul, mul-le-mul_right, pow-zero, div-mul-le_self, lt-div-mul-add, le_of_lt}
 use native.Mathlib.Omega.{arith}
 use Rattle.exact.specs.Power.{AtMost, AtLeast}
-use Rattle.exact.proofs.Power.{one-pow, pow-two, pow-mul, most_of_less, least_of_more, most_of_larger, least_of_smaller, most-mul, least-mul, through_power}
+use Rattle.exact.proofs.Power.{one-pow, pow-two, pow-mul, most_of_less, least_of_more, most_of_larger, least_of_smaller, most_mul, least_mul, through_power}
 use Rattle.gaps.proofs.Stretch.{Near}
 
 module _ {O Q : ℕ} (opos : 0 < O) where
@@ -19,8 +19,8 @@ module _ {O Q : ℕ} (opos : 0 < O) where
   pub product : {A e p p' : ℕ} (v : ℕ) → Near A e O p Q → A ≤ 2 * O → Near v 2 O p' Q → v + 2 ≤ 2 * O → Near (A * v / O) (2 * e + 5) O (p + p') Q
   product {A} {e} v a low b fits =
       record {
-        most = most_of_less opos (rounded (A * v / O) (div-mul-le_self (A * v) O)) (most-mul a.most b.most);
-        least = least_of_more opos (through (A * v / O) (le_of_lt (lt-div-mul-add opos))) (least-mul a.least b.least);
+        most = most_of_less opos (rounded (A * v / O) (div-mul-le_self (A * v) O)) (most_mul a.most b.most);
+        least = least_of_more opos (through (A * v / O) (le_of_lt (lt-div-mul-add opos))) (least_mul a.least b.least);
       }
     where
       rounded : (x : ℕ) → x * O ≤ A * v → x * (O * O) ≤ A * v * O
@@ -37,11 +37,11 @@ rewritten pos same near = record { most = most_of_larger pos (omega arith) near.
 
 -- a value to the half of an exponent
 module _ {n d p q : ℕ} where
-  most-root : AtMost (n * n) (d * d) p 0 q → 0 < d → AtMost n d p 0 (2 * q)
-  most-root h pos = record { per = pos; root = omega (arith, h.root); holds = rw (pow-mul n 2 q, pow-mul d 2 q, pow-two n, pow-two d) h.holds }
+  most_root : AtMost (n * n) (d * d) p 0 q → 0 < d → AtMost n d p 0 (2 * q)
+  most_root h pos = record { per = pos; root = omega (arith, h.root); holds = rw (pow-mul n 2 q, pow-mul d 2 q, pow-two n, pow-two d) h.holds }
 
-  least-root : AtLeast (n * n) (d * d) p 0 q → 0 < d → AtLeast n d p 0 (2 * q)
-  least-root h pos = record { per = pos; root = omega (arith, h.root); holds = rw (pow-mul n 2 q, pow-mul d 2 q, pow-two n, pow-two d) h.holds }
+  least_root : AtLeast (n * n) (d * d) p 0 q → 0 < d → AtLeast n d p 0 (2 * q)
+  least_root h pos = record { per = pos; root = omega (arith, h.root); holds = rw (pow-mul n 2 q, pow-mul d 2 q, pow-two n, pow-two d) h.holds }
 
 -- x is the square root of y / O, rounded down
 pub record RootOf (O y x : ℕ) : Type 0 where
@@ -50,11 +50,11 @@ pub record RootOf (O y x : ℕ) : Type 0 where
   pub least : O ≤ x
 
 -- a doubt of 2 stays one of 2
-pub root-near : {O p q y x : ℕ} → 0 < O → RootOf O y x → Near y 2 O p q → Near x 2 O p (2 * q)
-root-near {O} {y = y} {x} pos r near =
+pub root_near : {O p q y x : ℕ} → 0 < O → RootOf O y x → Near y 2 O p q → Near x 2 O p (2 * q)
+root_near {O} {y = y} {x} pos r near =
     record {
-      most = most-root (most_of_less (one-le-mul pos pos) (omega (arith, mul-le-mul_right O r.from)) near.most) pos;
-      least = least-root (least_of_more (one-le-mul pos pos) (through r.to r.least) near.least) pos;
+      most = most_root (most_of_less (one-le-mul pos pos) (omega (arith, mul-le-mul_right O r.from)) near.most) pos;
+      least = least_root (least_of_more (one-le-mul pos pos) (through r.to r.least) near.least) pos;
     }
   where
     through : y * O < suc x * suc x → O ≤ x → (y + 2) * (O * O) ≤ (x + 2) * (x + 2) * O

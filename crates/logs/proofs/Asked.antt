@@ -68,14 +68,14 @@ as_asked = weaker (lit< tt) (lit≤ tt)
 -- ---- the absolute bound
 -- over plain numbers: T b / (U (b + a)) is at most p / q, and either of p / q and T b / (U c) may be the smaller, where c is b - a
 module _ (a b c T p q U : ℕ) (e : b ≡ c + a) where
-  from-below : T * b * q + 0 * (U * (b + a)) ≤ p * (U * (b + a)) + 0 * q → T * (b * q) * (U * (b + a)) + 0 * (U * (b * q)) ≤ T * b * (U * (b * q)) + a * p * U * (U * (b + a))
-  from-below h = omega (arith, mul-le-mul_left (a * U) h)
+  from_below : T * b * q + 0 * (U * (b + a)) ≤ p * (U * (b + a)) + 0 * q → T * (b * q) * (U * (b + a)) + 0 * (U * (b * q)) ≤ T * b * (U * (b * q)) + a * p * U * (U * (b + a))
+  from_below h = omega (arith, mul-le-mul_left (a * U) h)
 
-  from-bound : p * (U * c) ≤ T * b * q → p * (U * (b * q)) + 0 * q ≤ (T * (b * q) + a * p * U) * q + 0 * (U * (b * q))
-  from-bound h = omega (arith, mul-le-mul_right q h, ap (λ (i : ℕ). p * U * q * i) e)
+  from_bound : p * (U * c) ≤ T * b * q → p * (U * (b * q)) + 0 * q ≤ (T * (b * q) + a * p * U) * q + 0 * (U * (b * q))
+  from_bound h = omega (arith, mul-le-mul_right q h, ap (λ (i : ℕ). p * U * q * i) e)
 
-  from-above : T * b * q ≤ p * (U * c) → T * b * (U * (b * q)) + 0 * (U * c) ≤ (T * (b * q) + a * p * U) * (U * c) + 0 * (U * (b * q))
-  from-above h = omega (arith, mul-le-mul_left (a * U) h, ap (λ (i : ℕ). T * b * q * U * i) e)
+  from_above : T * b * q ≤ p * (U * c) → T * b * (U * (b * q)) + 0 * (U * c) ≤ (T * (b * q) + a * p * U) * (U * c) + 0 * (U * (b * q))
+  from_above h = omega (arith, mul-le-mul_left (a * U) h, ap (λ (i : ℕ). T * b * q * U * i) e)
 
 -- T units are within a / b of log2 (n / d), which is at most p / q; so they are within (a / b) (p / q) of it. Units of the other sign there are none
 module _ {a b T M n d p q : ℕ} (less : a < b) (w : AroundLog a b T n d) (z : M ≡ 0) (h : AtMost n d p 0 q) where
@@ -85,13 +85,13 @@ module _ {a b T M n d p q : ℕ} (less : a < b) (w : AroundLog a b T n d) (z : M
   wide : 0 < 2 ^ 149 * (b * q)
   wide = mul-pos (pow_pos 149) (mul-pos (omega arith) h.root)
 
-  absolute-least : AtLeast n d (T * (b * q)) (M * (b * q) + a * p * 2 ^ 149) (2 ^ 149 * (b * q))
-  absolute-least = rw (z, zero-mul (b * q), zero-add (a * p * 2 ^ 149)) (least_of_smaller wide (from-below a b (b - a) T p q (2 ^ 149) whole (exponents w.least h)) w.least)
+  absolute_least : AtLeast n d (T * (b * q)) (M * (b * q) + a * p * 2 ^ 149) (2 ^ 149 * (b * q))
+  absolute_least = rw (z, zero-mul (b * q), zero-add (a * p * 2 ^ 149)) (least_of_smaller wide (from_below a b (b - a) T p q (2 ^ 149) whole (exponents w.least h)) w.least)
 
-  absolute-most : AtMost n d (T * (b * q) + a * p * 2 ^ 149) (M * (b * q)) (2 ^ 149 * (b * q))
-  absolute-most = rw (z, zero-mul (b * q)) (elim (le-or-lt (p * (2 ^ 149 * (b - a))) (T * b * q)) [
-    | inl l ↦ most_of_larger wide (from-bound a b (b - a) T p q (2 ^ 149) whole l) h
-    | inr l ↦ most_of_larger wide (from-above a b (b - a) T p q (2 ^ 149) whole (le_of_lt l)) w.most
+  absolute_most : AtMost n d (T * (b * q) + a * p * 2 ^ 149) (M * (b * q)) (2 ^ 149 * (b * q))
+  absolute_most = rw (z, zero-mul (b * q)) (elim (le-or-lt (p * (2 ^ 149 * (b - a))) (T * b * q)) [
+    | inl l ↦ most_of_larger wide (from_bound a b (b - a) T p q (2 ^ 149) whole l) h
+    | inr l ↦ most_of_larger wide (from_above a b (b - a) T p q (2 ^ 149) whole (le_of_lt l)) w.most
   ])
 
 -- a relative error is an absolute one for every bound on the logarithm
@@ -100,11 +100,11 @@ absolute {a} {b} {x} {r} less w = elim (le-or-lt (2 ^ 149) (mag x)) [
   | inl h ↦
       let v = w.above h in
       let z = no_minus w (omega arith) h in
-      record { least = λ p q g l. absolute-least less v z l.most; most = λ p q g l. absolute-most less v z l.most }
+      record { least = λ p q g l. absolute_least less v z l.most; most = λ p q g l. absolute_most less v z l.most }
   | inr h ↦
       let v = w.below (le_of_lt h) in
       let z = no_plus w h in
-      record { least = λ p q g l. at_least (pow_pos 149) (absolute-most less v z (at_most l.least)); most = λ p q g l. at_most (absolute-least less v z (at_most l.least)) }
+      record { least = λ p q g l. at_least (pow_pos 149) (absolute_most less v z (at_most l.least)); most = λ p q g l. at_most (absolute_least less v z (at_most l.least)) }
 ]
 
 -- so the result is within 2 ^ -21 max (1, |log2 x|), which document 01 asks for

@@ -2,17 +2,17 @@
 use Rattle.std.proofs.Common.{◌≡◌, ℕ, ◌+◌, ◌-◌, ◌*◌, ◌/◌, ◌%◌, ◌^◌, ◌<◌, ◌≤◌, Bool, true, false, cond, sym, refl, ap, ◌∙◌, subst, inl, inr, le_trans, le_of_eq, add-zero, mul-le-mul_right, mul_assoc, add-mul, mul-le-mul_left, mul-lt-mul_of_pos_right, mul-pos, arith, lit<, pow_pos, pow_mono, pow-add, ltb-false, ltb-true, le-ltb, lt-ltb}
 use Rattle.units.proofs.Naturals.{le-or-lt}
 use Rattle.exact.specs.Power.{LessThan, MoreThan}
-use Rattle.exact.proofs.Exponents.{less-larger, more_smaller, less_mirrored, more_mirrored}
+use Rattle.exact.proofs.Exponents.{less_larger, more_smaller, less_mirrored, more_mirrored}
 use Rattle.gaps.specs.Apart.{OffFloats}
 use Rattle.fine.specs.Value.{fine_of}
 use Rattle.fine.proofs.Method.{U}
 use Rattle.fixed.proofs.Rounding.{Placed}
 use Rattle.logs.specs.Value.{log_of_one, width_of, is_left_open, fraction_of, is_above, settled_digits, log2_digits}
 use Rattle.logs.proofs.Middles.{Q}
-use Rattle.logs.proofs.Told.{Known, Digits, width_most, shut_digits, few_zeros, middle-above, middle-below, open_below, open_above}
+use Rattle.logs.proofs.Told.{Known, Digits, width_most, shut_digits, few_zeros, middle_above, middle_below, open_below, open_above}
 use Rattle.logs.proofs.Placed as placed
 use Rattle.logs.proofs.Decided.{decided_above, decided_below}
-use Rattle.logs.proofs.Kept.{half_of, kept_above, kept-below}
+use Rattle.logs.proofs.Kept.{half_of, kept_above, kept_below}
 
 -- ---- over plain numbers
 
@@ -81,8 +81,8 @@ module _ (b w X A z : ℕ) (p : Placed A z) (is : X * 2 ≡ (b % 8388608 + 83886
   times : (k : ℕ) → k * 2 ^ 54 * 2 ^ z ≡ k * (c * 2 ^ 40)
   times k = mul_assoc k (2 ^ 54) (2 ^ z) ∙ ap (λ (i : ℕ). k * i) ones
 
-  from-e : e * (c * 2 ^ 40) ≤ w * 2 ^ z
-  from-e = le_trans (le_of_eq (sym (times e))) (mul-le-mul_right (2 ^ z) low)
+  from_e : e * (c * 2 ^ 40) ≤ w * 2 ^ z
+  from_e = le_trans (le_of_eq (sym (times e))) (mul-le-mul_right (2 ^ z) low)
 
   before_next : w * 2 ^ z < (e + 1) * (c * 2 ^ 40)
   before_next = subst (λ (i : ℕ). w * 2 ^ z < i) (times (e + 1)) (mul-lt-mul_of_pos_right (let h : w < (e + 1) * 2 ^ 54 = omega (arith, down) in h) (pow_pos z))
@@ -132,8 +132,8 @@ module _ (b w X A z : ℕ) (p : Placed A z) (is : X * 2 ≡ (b % 8388608 + 83886
     whole_above : w * 2 ^ z ≡ 127 * (c * 2 ^ 40) + R
     whole_above = ap (λ (i : ℕ). i * 2 ^ z) place ∙ add-mul log_of_one A (2 ^ z) ∙ ap (λ (i : ℕ). i + R) (times 127)
 
-    small-above : 11 ≤ z → (z ≤ 32) × (e ≡ 127)
-    small-above h =
+    small_above : 11 ≤ z → (z ≤ 32) × (e ≡ 127)
+    small_above h =
         let s = short A z p h in
         let k : e ≡ 127 = omega (arith, down) in
         (few A z p 32 31 refl (subst (λ (i : ℕ). 2 ^ 31 ≤ i) (let l : w - log_of_one ≡ A = omega arith in l) (let l = up (omega arith) in omega arith)), k)
@@ -142,16 +142,16 @@ module _ (b w X A z : ℕ) (p : Placed A z) (is : X * 2 ≡ (b % 8388608 + 83886
     unfolding settled_digits fraction_of
     settled_above o =
         let zs = few_zeros A z (width_of z) (width_most z) o in
-        let (v, h) = placed.placed_above c e (u / 256) R (w * 2 ^ z) from-e before_next (middle-above X (2 ^ 149) A z (width_of z) (width_most z) known p o) (middle-below X (2 ^ 149) A z (width_of z) (width_most z) known p o) whole_above in
+        let (v, h) = placed.placed_above c e (u / 256) R (w * 2 ^ z) from_e before_next (middle_above X (2 ^ 149) A z (width_of z) (width_most z) known p o) (middle_below X (2 ^ 149) A z (width_of z) (width_most z) known p o) whole_above in
         let f : M * 2 ^ (49 - z) % 2 ^ 64 ≡ v * 2 ^ (49 - z) = placed.fraction_above M c e v (2 ^ (49 - z)) (2 ^ 64) (pieces zs) (pow_pos (49 - z)) h (omega (arith, down)) in
-        let off = kept_above z (u / 256) e v (omega (arith, p.low)) (omega (arith, p.high)) h small-above in
+        let off = kept_above z (u / 256) e v (omega (arith, p.low)) (omega (arith, p.high)) h small_above in
         rw (le-ltb w log_of_one (omega arith), f) (go v h.less zs off h.whole o (is_above b (v * 2 ^ (49 - z))) refl)
       where
         go : (v : ℕ) (less : v < 2 * c) (zs : z ≤ 39) (off : OffFloats v (2 * c)) → 127 * (2 * c) + M ≡ v + e * (2 * c) → is_left_open u (width_of z) ≡ true → (k : Bool) → is_above b (v * 2 ^ (49 - z)) ≡ k → Digits X (2 ^ 149) (u / 256 + cond k 1 0) z
         go v less zs off h o true k = open_above X (2 ^ 149) A z (width_of z) (width_most z) known p o (more_smaller (lit< tt) (exponent-above M G (2 * c) (v + e * (2 * c)) Q (unit zs) h).0 (high v less zs off k))
         go v less zs off h o false k =
             subst (λ (i : ℕ). Digits X (2 ^ 149) i z) (sym (add-zero (u / 256)))
-            (open_below X (2 ^ 149) A z (width_of z) (width_most z) known p o (less-larger (lit< tt) (exponent-above M G (2 * c) (v + e * (2 * c)) Q (unit zs) h).1 (deep v less zs off k)))
+            (open_below X (2 ^ 149) A z (width_of z) (width_most z) known p o (less_larger (lit< tt) (exponent-above M G (2 * c) (v + e * (2 * c)) Q (unit zs) h).1 (deep v less zs off k)))
 
     pub chosen_above : Digits X (2 ^ 149) (log2_digits b w u z) z
     unfolding log2_digits
@@ -166,8 +166,8 @@ module _ (b w X A z : ℕ) (p : Placed A z) (is : X * 2 ≡ (b % 8388608 + 83886
     whole_below : w * 2 ^ z + R ≡ 127 * (c * 2 ^ 40)
     whole_below = sym (add-mul w A (2 ^ z)) ∙ ap (λ (i : ℕ). i * 2 ^ z) place ∙ times 127
 
-    small-below : 11 ≤ z → (z ≤ 33) × (e ≡ 126)
-    small-below h =
+    small_below : 11 ≤ z → (z ≤ 33) × (e ≡ 126)
+    small_below h =
         let s = short A z p h in
         let k : e ≡ 126 = omega (arith, down, low) in
         (few A z p 33 30 refl (omega (arith, down)), k)
@@ -176,15 +176,15 @@ module _ (b w X A z : ℕ) (p : Placed A z) (is : X * 2 ≡ (b % 8388608 + 83886
     unfolding settled_digits fraction_of
     settled_below o =
         let zs = few_zeros A z (width_of z) (width_most z) o in
-        let (v, h) = placed.placed_below c e (u / 256) R (w * 2 ^ z) from-e before_next (middle-above (2 ^ 149) X A z (width_of z) (width_most z) known p o) (middle-below (2 ^ 149) X A z (width_of z) (width_most z) known p o) whole_below in
+        let (v, h) = placed.placed_below c e (u / 256) R (w * 2 ^ z) from_e before_next (middle_above (2 ^ 149) X A z (width_of z) (width_most z) known p o) (middle_below (2 ^ 149) X A z (width_of z) (width_most z) known p o) whole_below in
         let f : (2 ^ 64 - M * 2 ^ (49 - z) % 2 ^ 64) % 2 ^ 64 ≡ v * 2 ^ (49 - z) = placed.fraction_below M c e v (2 ^ (49 - z)) (2 ^ 64) (pieces zs) (pow_pos (49 - z)) h (omega (arith, low)) in
-        let off = kept-below z (u / 256) e v (omega (arith, p.low)) (omega (arith, p.high)) h small-below in
+        let off = kept_below z (u / 256) e v (omega (arith, p.low)) (omega (arith, p.high)) h small_below in
         rw (lt-ltb w log_of_one (omega arith), f) (go v h.less zs off h.whole o (is_above b (v * 2 ^ (49 - z))) refl)
       where
         go : (v : ℕ) (less : v < 2 * c) (zs : z ≤ 39) (off : OffFloats v (2 * c)) → 127 * (2 * c) ≡ v + e * (2 * c) + M → is_left_open u (width_of z) ≡ true → (k : Bool) → is_above b (v * 2 ^ (49 - z)) ≡ k → Digits (2 ^ 149) X (u / 256 + cond k 0 1) z
         go v less zs off h o true k =
             subst (λ (i : ℕ). Digits (2 ^ 149) X i z) (sym (add-zero (u / 256)))
-            (open_below (2 ^ 149) X A z (width_of z) (width_most z) known p o (less-larger (lit< tt) (exponent-below M G (2 * c) (v + e * (2 * c)) Q (unit zs) h).0 (less_mirrored (high v less zs off k))))
+            (open_below (2 ^ 149) X A z (width_of z) (width_most z) known p o (less_larger (lit< tt) (exponent-below M G (2 * c) (v + e * (2 * c)) Q (unit zs) h).0 (less_mirrored (high v less zs off k))))
         go v less zs off h o false k =
             open_above (2 ^ 149) X A z (width_of z) (width_most z) known p o (more_smaller (lit< tt) (exponent-below M G (2 * c) (v + e * (2 * c)) Q (unit zs) h).1 (more_mirrored Xpos (deep v less zs off k)))
 

@@ -30,18 +30,18 @@ crossed a b c d h = omega arith
 
 -- a float of X units, m / 2 ^ 23 times 2 ^ (e - 127), and the power of v / C; t is that fraction in units of 2 ^ -64
 module _ (X m e v C t : ℕ) (is : X * 2 ≡ m * 2 ^ e) (some : 0 < m) (Cpos : 0 < C) (small : t < U) (same : t * C ≡ v * U) (off : OffFloats v C) where
-  power-most : AtMost (U + fine_of t) U v 0 C
-  power-most = most_of_larger Cpos (crossed t C v U (le_of_eq same)) (fine_most t small)
+  power_most : AtMost (U + fine_of t) U v 0 C
+  power_most = most_of_larger Cpos (crossed t C v U (le_of_eq same)) (fine_most t small)
 
-  power-least : AtLeast (U + fine_of t + 63) U v 0 C
-  power-least = least_of_smaller Cpos (crossed v U t C (le_of_eq (sym same))) (fine_least t small)
+  power_least : AtLeast (U + fine_of t + 63) U v 0 C
+  power_least = least_of_smaller Cpos (crossed v U t C (le_of_eq (sym same))) (fine_least t small)
 
   -- the float is above the power
   pub decided_above : U + fine_of t < m * 2 ^ 41 → MoreThan X (2 ^ 149) (v + e * C) (0 + 127 * C) C
   decided_above h = go (off m)
     where
       go : Apart (m * 2 ^ 30) (2 ^ 53) v C → MoreThan X (2 ^ 149) (v + e * C) (0 + 127 * C) C
-      go (above l) = absurd (too_high m (fine_of t) (2 ^ 53) (lit< tt) (through_power l power-least) h)
+      go (above l) = absurd (too_high m (fine_of t) (2 ^ 53) (lit< tt) (through_power l power_least) h)
       go (below l) = more_of_more (lit< tt) (less X m (2 ^ e) (2 ^ 149) is some (mul-pos (pow_pos e) (lit< tt))) (least_shift e 127 l)
 
   -- below it
@@ -50,4 +50,4 @@ module _ (X m e v C t : ℕ) (is : X * 2 ≡ m * 2 ^ e) (some : 0 < m) (Cpos : 0
     where
       go : Apart (m * 2 ^ 30) (2 ^ 53) v C → LessThan X (2 ^ 149) (v + e * C) (0 + 127 * C) C
       go (above l) = less_of_less (lit< tt) (more X m (2 ^ e) (2 ^ 149) is (mul-pos (pow_pos e) (lit< tt))) (most_shift e 127 l)
-      go (below l) = absurd (too_low m (fine_of t) (2 ^ 53) (lit< tt) some (through_power power-most l) h)
+      go (below l) = absurd (too_low m (fine_of t) (2 ^ 53) (lit< tt) some (through_power power_most l) h)

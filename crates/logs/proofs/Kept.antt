@@ -56,8 +56,8 @@ module _ (z s e v : ℕ) (least : 2 ^ 23 ≤ s) (most : s < 2 ^ 24) where
       itself c h = omega arith
 
   -- below it
-  pub kept-below : Below (2 * s + 1) (half_of z) e v → (11 ≤ z → (z ≤ 33) × (e ≡ 126)) → OffFloats v (2 * half_of z)
-  kept-below a small = elim (le-or-lt z 10) [
+  pub kept_below : Below (2 * s + 1) (half_of z) e v → (11 ≤ z → (z ≤ 33) × (e ≡ 126)) → OffFloats v (2 * half_of z)
+  kept_below a small = elim (le-or-lt z 10) [
     | inl h ↦ kept_large z v h a.some a.less
     | inr h ↦
         let (k, l) = small h in

@@ -5,7 +5,7 @@ use Rattle.units.specs.Units.{mag, P, N, Number, Le}
 use Rattle.units.specs.Answers.{Ends, float_bits}
 use Rattle.units.proofs.Naturals.{le-or-lt}
 use Rattle.units.proofs.Signs.{plus_of_lem, minus_of_lem, size-sum}
-use Rattle.units.proofs.Opposite.{opposite-is}
+use Rattle.units.proofs.Opposite.{opposite_is}
 use Rattle.units.proofs.Bits.{Is, put_positive}
 use Rattle.units.proofs.Answers.{given, declined, written, untouched}
 use Rattle.exact.specs.Power.{AtMost, AtLeast, MoreThan}
@@ -18,7 +18,7 @@ use Rattle.logs.specs.Value.{fixed_of, log_of_one, steps_above, steps_below, dis
 use Rattle.logs.specs.Fixed.{FixedLog2}
 use Rattle.logs.proofs.Reduction.{least_over, most_over, reading, whole_fixed, units_by, fraction_bounds}
 use Rattle.logs.proofs.Order.{fixed_least, fixed_most, fixed_order}
-use Rattle.logs.proofs.Rounding.{zeros_of, digits_at, none-bits, is_float, rounded_back, whole_shut, whole_units}
+use Rattle.logs.proofs.Rounding.{zeros_of, digits_at, none_bits, is_float, rounded_back, whole_shut, whole_units}
 use Rattle.logs.proofs.Relative.{InSteps, over_one, in_steps, mirrored, from_one, up_to_one, at_most_one}
 use Rattle.logs.proofs.Middles.{Q, rounds_nearest, rounds_near, mirrored_nearest}
 use Rattle.logs.proofs.Told.{Known, Digits}
@@ -42,8 +42,8 @@ record Result (x r : Float) : Type 0 where
   whole : (k : ℕ) → mag x ≡ 2 ^ k → P r + 149 * 2 ^ 149 ≡ k * 2 ^ 149 + N r
 
 -- what is more than a power of two whose exponent is at least 0 is more than 1
-above-one : {n d p q : ℕ} → MoreThan n d p 0 q → n ≤ d → ⊥
-above-one {q} m l = not_both (most_of_larger m.root (omega arith) (up_to_one m.per l)) m
+above_one : {n d p q : ℕ} → MoreThan n d p 0 q → n ≤ d → ⊥
+above_one {q} m l = not_both (most_of_larger m.root (omega arith) (up_to_one m.per l)) m
 
 -- what is known of one side where nothing is on the other
 sided : {n d A B K : ℕ} → InSteps n d A B → A ≡ K → B ≡ 0 → AtLeast n d ((2 ^ 33 - 15) * K) 0 (2 ^ 87) × AtMost n d ((2 ^ 33 + 15) * K) 0 (2 ^ 87)
@@ -114,21 +114,21 @@ module _ (x : Float) (a : Accepts x) where
         let (low, next, last) = bounds in
         chosen_above bits w (mag x) A z (placed A pos (omega (arith, short))) (units_by x a) low next last (omega arith) pos (known (placed A pos (omega (arith, short))) (sided in_fixed_point (omega arith) (omega arith)) (in_all_above (omega arith)))
 
-    is-above : Is (log2_of x) false (digits_at bits w * 2 ^ (135 - z))
+    is_above_lem : Is (log2_of x) false (digits_at bits w * 2 ^ (135 - z))
     unfolding log2_of
-    is-above = subst (λ (s : Bool). Is (of_bits binary32 (rounded_bits bits w)) s (digits_at bits w * 2 ^ (135 - z))) (le-ltb w log_of_one (omega arith)) (is_float bits w pos (omega (arith, short)) digits_above.least)
+    is_above_lem = subst (λ (s : Bool). Is (of_bits binary32 (rounded_bits bits w)) s (digits_at bits w * 2 ^ (135 - z))) (le-ltb w log_of_one (omega arith)) (is_float bits w pos (omega (arith, short)) digits_above.least)
 
-    result-above : Result x (log2_of x)
-    result-above =
+    result_above : Result x (log2_of x)
+    result_above =
         let f = digits_above.found in
         let r = f.rounds in
-        let n = rounds_nearest _ _ _ _ r (log2_of x) (subst (λ (u : ℕ). Is (log2_of x) false u) f.same is-above) in
-        let p : P (log2_of x) ≡ digits_at bits w * 2 ^ (135 - z) = plus_of_lem (log2_of x) is-above.sign ∙ is-above.units in
-        let m : N (log2_of x) ≡ 0 = minus_of_lem (log2_of x) is-above.sign in
+        let n = rounds_nearest _ _ _ _ r (log2_of x) (subst (λ (u : ℕ). Is (log2_of x) false u) f.same is_above_lem) in
+        let p : P (log2_of x) ≡ digits_at bits w * 2 ^ (135 - z) = plus_of_lem (log2_of x) is_above_lem.sign ∙ is_above_lem.units in
+        let m : N (log2_of x) ≡ 0 = minus_of_lem (log2_of x) is_above_lem.sign in
         record {
-          number = is-above.number;
-          nearest = record { from-above = n.from-above; from-below = n.from-below };
-          near = record { above = λ h. rw (p, f.same) (rounds_near _ _ _ _ r); below = λ h. absurd (above-one r.under h) };
+          number = is_above_lem.number;
+          nearest = record { from_above = n.from_above; from_below = n.from_below };
+          near = record { above = λ h. rw (p, f.same) (rounds_near _ _ _ _ r); below = λ h. absurd (above_one r.under h) };
           whole = λ k e.
               let g = whole_fixed x a k e in
               rw (p, m, exact (k - 149) pos (omega arith)) (counted (k - 149) k (2 ^ 149) (omega arith));
@@ -142,28 +142,28 @@ module _ (x : Float) (a : Accepts x) where
     some : 0 < A
     some = omega arith
 
-    digits-below : Digits (2 ^ 149) (mag x) (digits_at bits w) z
+    digits_below : Digits (2 ^ 149) (mag x) (digits_at bits w) z
     unfolding first_word
-    digits-below =
+    digits_below =
         let (low, next, last) = bounds in
         chosen_below bits w (mag x) A z (placed A some (omega (arith, short))) (units_by x a) low next last (omega arith) some (lt_of_lt_of_le (lit< tt) a.normal) (known (placed A some (omega (arith, short))) (sided (mirrored in_fixed_point) (omega arith) (omega arith)) (in_all_below (omega arith)))
 
     is_below : Is (log2_of x) true (digits_at bits w * 2 ^ (135 - z))
     unfolding log2_of
-    is_below = subst (λ (s : Bool). Is (of_bits binary32 (rounded_bits bits w)) s (digits_at bits w * 2 ^ (135 - z))) (lt-ltb w log_of_one down) (is_float bits w some (omega (arith, short)) digits-below.least)
+    is_below = subst (λ (s : Bool). Is (of_bits binary32 (rounded_bits bits w)) s (digits_at bits w * 2 ^ (135 - z))) (lt-ltb w log_of_one down) (is_float bits w some (omega (arith, short)) digits_below.least)
 
-    result-below : Result x (log2_of x)
-    result-below =
-        let f = digits-below.found in
+    result_below : Result x (log2_of x)
+    result_below =
+        let f = digits_below.found in
         let r = f.rounds in
-        let o = opposite-is (log2_of x) (subst (λ (u : ℕ). Is (log2_of x) true u) f.same is_below) in
+        let o = opposite_is (log2_of x) (subst (λ (u : ℕ). Is (log2_of x) true u) f.same is_below) in
         let n = mirrored_nearest (2 ^ 149) (mag x) (lit< tt) (log2_of x) is_below.number (rounds_nearest _ _ _ _ r (neg (log2_of x)) o) in
         let p : P (log2_of x) ≡ 0 = ap (λ (s : Bool). cond s 0 (mag (log2_of x))) is_below.sign in
         let m : N (log2_of x) ≡ digits_at bits w * 2 ^ (135 - z) = ap (λ (s : Bool). cond s (mag (log2_of x)) 0) is_below.sign ∙ is_below.units in
         record {
           number = is_below.number;
-          nearest = record { from-above = n.from-above; from-below = n.from-below };
-          near = record { above = λ h. absurd (above-one r.under h); below = λ h. rw (m, f.same) (rounds_near _ _ _ _ r) };
+          nearest = record { from_above = n.from_above; from_below = n.from_below };
+          near = record { above = λ h. absurd (above_one r.under h); below = λ h. rw (m, f.same) (rounds_near _ _ _ _ r) };
           whole = λ k e.
               let g = whole_fixed x a k e in
               rw (p, m, exact (149 - k) some (omega arith)) (counted (149 - k) k (2 ^ 149) (omega arith));
@@ -174,28 +174,28 @@ module _ (x : Float) (a : Accepts x) where
 
   -- ---- at it, where x is 1
   module _ (at_one : w ≡ log_of_one) where
-    zero-known : AtLeast (mag x) (2 ^ 149) 0 0 (2 ^ 87) × AtMost (mag x) (2 ^ 149) 0 0 (2 ^ 87)
-    zero-known = sided {K = 0} in_fixed_point (omega arith) (omega arith)
+    zero_known : AtLeast (mag x) (2 ^ 149) 0 0 (2 ^ 87) × AtMost (mag x) (2 ^ 149) 0 0 (2 ^ 87)
+    zero_known = sided {K = 0} in_fixed_point (omega arith) (omega arith)
 
     one : mag x ≡ 2 ^ 149
-    one = le_antisymm (at_most_one zero-known.1) (at_most_one (at_most zero-known.0))
+    one = le_antisymm (at_most_one zero_known.1) (at_most_one (at_most zero_known.0))
 
     none : log2_of x ≡ of_bits binary32 0
     unfolding log2_of
-    none = ap (of_bits binary32) (none-bits bits w (omega arith))
+    none = ap (of_bits binary32) (none_bits bits w (omega arith))
 
     is_zero : Is (log2_of x) false 0
     is_zero = rw none (put_positive 0 0 (inl refl) (omega arith) (omega arith))
 
-    result-one : Result x (log2_of x)
-    result-one =
+    result_one : Result x (log2_of x)
+    result_one =
         let p : P (log2_of x) ≡ 0 = plus_of_lem (log2_of x) is_zero.sign ∙ is_zero.units in
         let m : N (log2_of x) ≡ 0 = minus_of_lem (log2_of x) is_zero.sign in
         record {
           number = is_zero.number;
           nearest = record {
-            from-above = λ y h l. less_of_larger (lit< tt) (zero-less (P (log2_of x)) (N (log2_of x)) (P y) (N y) Q p m l) (up_to_one (lit< tt) (le_of_eq one));
-            from-below = λ y h l. more_of_smaller (lit< tt) (zero_more (P (log2_of x)) (N (log2_of x)) (P y) (N y) Q p m l) (from_one (lit< tt) (le_of_eq (sym one)));
+            from_above = λ y h l. less_of_larger (lit< tt) (zero_less (P (log2_of x)) (N (log2_of x)) (P y) (N y) Q p m l) (up_to_one (lit< tt) (le_of_eq one));
+            from_below = λ y h l. more_of_smaller (lit< tt) (zero_more (P (log2_of x)) (N (log2_of x)) (P y) (N y) Q p m l) (from_one (lit< tt) (le_of_eq (sym one)));
           };
           near = record {
             above = λ h. rw p (record { least = least_of_smaller (lit< tt) (lit≤ tt) (from_one (lit< tt) (le_of_eq (sym one))); most = most_of_larger (lit< tt) (lit≤ tt) (up_to_one (lit< tt) (le_of_eq one)) });
@@ -210,14 +210,14 @@ module _ (x : Float) (a : Accepts x) where
         one_pos : 0 < mag x
         one_pos = lt_of_lt_of_le (lit< tt) a.normal
 
-        zero-less : (p m q n K : ℕ) → p ≡ 0 → m ≡ 0 → p + n < q + m → 0 * K + (m + n) * 1 < (p + q) * 1 + 0 * K
-        zero-less p m q n K e f l = omega arith
+        zero_less : (p m q n K : ℕ) → p ≡ 0 → m ≡ 0 → p + n < q + m → 0 * K + (m + n) * 1 < (p + q) * 1 + 0 * K
+        zero_less p m q n K e f l = omega arith
 
         zero_more : (p m q n K : ℕ) → p ≡ 0 → m ≡ 0 → q + m < p + n → (p + q) * 1 + 0 * K < 0 * K + (m + n) * 1
         zero_more p m q n K e f l = omega arith
 
   result : Result x (log2_of x)
-  result = elim (le-or-lt w log_of_one) [ inl h ↦ elim (eq-or-lt_of_le h) [ inl e ↦ result-one e | inr l ↦ result-below l ] | inr l ↦ result-above l ]
+  result = elim (le-or-lt w log_of_one) [ inl h ↦ elim (eq-or-lt_of_le h) [ inl e ↦ result_one e | inr l ↦ result_below l ] | inr l ↦ result_above l ]
 
   log2_one : mag x ≡ 2 ^ 149 → log2_of x ≡ of_bits binary32 0
   log2_one e = let f = whole_fixed x a 149 e in none (omega arith)
@@ -230,9 +230,9 @@ log2_order x a x' a' l = elim (le-or-lt (P (log2_of x') + N (log2_of x)) (P (log
   | inr h ↦
       let r = result x a in
       let r' = result x' a' in
-      let m = r'.nearest.from-below (log2_of x) r.number h in
-      let g : mag x < mag x' = between (r.nearest.from-above (log2_of x') r'.number h) (rw (add_comm (P (log2_of x')), add_comm (N (log2_of x'))) at m) in
-      absurd (omega (arith, size-sum x, size-sum x', a.at-least-zero, a'.at-least-zero))
+      let m = r'.nearest.from_below (log2_of x) r.number h in
+      let g : mag x < mag x' = between (r.nearest.from_above (log2_of x') r'.number h) (rw (add_comm (P (log2_of x')), add_comm (N (log2_of x'))) at m) in
+      absurd (omega (arith, size-sum x, size-sum x', a.at_least_zero, a'.at_least_zero))
 ]
 
 -- code 0 and the value
@@ -245,7 +245,7 @@ promised x a =
       near = λ h. r.near;
       below_one = λ h. negative r.near;
       one = λ h. log2_one x a;
-      above-one = λ h. positive r.near;
+      above_one = λ h. positive r.near;
       whole = λ h. r.whole;
       order = λ h. log2_order x a;
     }
@@ -258,7 +258,7 @@ refused x n = record {
   near = λ h. absurd (n h);
   below_one = λ h. absurd (n h);
   one = λ h. absurd (n h);
-  above-one = λ h. absurd (n h);
+  above_one = λ h. absurd (n h);
   whole = λ h. absurd (n h);
   order = λ h. absurd (n h);
 }

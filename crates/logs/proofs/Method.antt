@@ -6,11 +6,11 @@ use lib.Ieee.Fits.{and_l, and_r}
 use Rattle.exact.specs.Power.{AtMost, AtLeast}
 use Rattle.exact.specs.Polynomial.{value}
 use Rattle.exact.proofs.Power.{most_of_less, least_of_more, most_of_larger, least_of_smaller}
-use Rattle.exact.proofs.Logarithm.{exponent, exponent-least, exponent-most}
+use Rattle.exact.proofs.Logarithm.{exponent, exponent_least, exponent_most}
 use Rattle.exact.proofs.Pieces.{end}
 use Rattle.exact.proofs.Tight.{upper, lower, tight_above, tight_below}
 use Rattle.fixed.specs.Horner.{horner}
-use Rattle.fixed.proofs.Horner.{horner_close, horner-first}
+use Rattle.fixed.proofs.Horner.{horner_close, horner_first}
 
 -- F steps of 2 ^ -54 are log2 (n / d), within 5 parts in 2 ^ 32 of F
 pub record Close (n d F : ℕ) : Type 0 where
@@ -32,7 +32,7 @@ module _ (d v c b : ℕ) (cs : List ℕ) (dpos : 0 < d) (near : 16 * v ≤ d) (f
   -- the exact polynomial is at most 4 parts in 2 ^ 32 above what is made
   pub floors : (2 ^ 32 + 1) * exact ≤ (2 ^ 32 + 5) * (made * d ^ 4)
   floors =
-      through made (d ^ 3) (d ^ 4) (length cs) exact (pow-suc d 3) few (le_trans large (horner-first d c (b ∷ cs) v))
+      through made (d ^ 3) (d ^ 4) (length cs) exact (pow-suc d 3) few (le_trans large (horner_first d c (b ∷ cs) v))
       (horner_close d dpos v (le_trans (omega arith) near) 3 c b cs few)
     where
       through : (p C K k X : ℕ) → K ≡ C * d → k ≤ 3 → 5 * 2 ^ 28 ≤ p → X ≤ (p + 1) * K + k * v * C → (2 ^ 32 + 1) * X ≤ (2 ^ 32 + 5) * (p * K)
@@ -61,28 +61,28 @@ module _ (cs ds bs plus minus : List ℕ) (unit : ℕ) where
     second : Bool
     second = exponent 1 cs ds bs 5 plus minus unit (2 ^ 32 + 1) (2 ^ 32) 12 lower (2 ^ 48) 16 0 (1 ∷ []) false
 
-    above-t : AtMost (value 1 bs x d) E ((2 ^ 32 + 1) * z) 0 q
+    above_t : AtMost (value 1 bs x d) E ((2 ^ 32 + 1) * z) 0 q
     unfolding encloses first second end
-    above-t =
-        exponent-most 1 cs ds bs 5 plus minus unit (2 ^ 32 + 1) (2 ^ 32) 12 lower (2 ^ 48) 16 0 (1 ∷ [])
+    above_t =
+        exponent_most 1 cs ds bs 5 plus minus unit (2 ^ 32 + 1) (2 ^ 32) 12 lower (2 ^ 48) 16 0 (1 ∷ [])
         (lit< tt) fits-cs fits-ds fits-bs fits-plus fits-minus x d dpos (omega arith) (omega arith) z E at_z rest Epos (one-le-mul upos (lit< tt)) tight_below (and_r first second t)
 
-    below-t : (2 ^ 32 - 5) * z ≤ q → AtLeast (value 1 bs x d) E ((2 ^ 32 - 5) * z) 0 q
+    below_t : (2 ^ 32 - 5) * z ≤ q → AtLeast (value 1 bs x d) E ((2 ^ 32 - 5) * z) 0 q
     unfolding encloses first second end
-    below-t small =
-        exponent-least 1 cs ds bs 5 plus minus unit (2 ^ 32 - 5) (2 ^ 32) 12 upper (2 ^ 48) 16 0 (1 ∷ [])
+    below_t small =
+        exponent_least 1 cs ds bs 5 plus minus unit (2 ^ 32 - 5) (2 ^ 32) 12 upper (2 ^ 48) 16 0 (1 ∷ [])
         (lit< tt) fits-cs fits-ds fits-bs fits-plus fits-minus x d dpos (omega arith) (omega arith) z E at_z rest Epos (one-le-mul upos (lit< tt)) tight_above (and_l first second t) small
 
     -- where z / (unit d ^ 5) is Y / (2 ^ 54 d ^ 4), and F is Y / d ^ 4 but for the floors
     module _ (c Y F : ℕ) (scaled : unit * d ≡ c * 2 ^ 54) (at-Y : z ≡ c * Y) (low : F * d ^ 4 ≤ Y) (high : (2 ^ 32 + 1) * Y ≤ (2 ^ 32 + 5) * (F * d ^ 4)) where
-      q-is : q ≡ c * (2 ^ 86 * d ^ 4)
-      q-is = through (d ^ 5) (d ^ 4) (pow-suc d 4)
+      q_is : q ≡ c * (2 ^ 86 * d ^ 4)
+      q_is = through (d ^ 5) (d ^ 4) (pow-suc d 4)
         where
           through : (G K : ℕ) → G ≡ K * d → unit * 2 ^ 32 * G ≡ c * (2 ^ 86 * K)
           through G K e = rw e (omega (arith, ap (λ (i : ℕ). i * (K * 2 ^ 32)) scaled))
 
       small : 5 * F ≤ 3 * 2 ^ 54 → (2 ^ 32 - 5) * z ≤ q
-      small h = rw (at-Y, q-is) (through (d ^ 4) low high)
+      small h = rw (at-Y, q_is) (through (d ^ 4) low high)
         where
           through : (K : ℕ) → F * K ≤ Y → (2 ^ 32 + 1) * Y ≤ (2 ^ 32 + 5) * (F * K) → (2 ^ 32 - 5) * (c * Y) ≤ c * (2 ^ 86 * K)
           through K l m =
@@ -93,8 +93,8 @@ module _ (cs ds bs plus minus : List ℕ) (unit : ℕ) where
       -- then F is close to the logarithm
       pub close : 5 * F ≤ 3 * 2 ^ 54 → Close (value 1 bs x d) E F
       close h = record {
-        least = least_of_smaller (lit< tt) (rw (at-Y, q-is) (before (d ^ 4) low)) (below-t (small h));
-        most = most_of_larger (lit< tt) (rw (at-Y, q-is) (after (d ^ 4) high)) above-t;
+        least = least_of_smaller (lit< tt) (rw (at-Y, q_is) (before (d ^ 4) low)) (below_t (small h));
+        most = most_of_larger (lit< tt) (rw (at-Y, q_is) (after (d ^ 4) high)) above_t;
       }
         where
           before : (K : ℕ) → F * K ≤ Y → (2 ^ 32 - 5) * F * (c * (2 ^ 86 * K)) + 0 * 2 ^ 86 ≤ (2 ^ 32 - 5) * (c * Y) * 2 ^ 86 + 0 * (c * (2 ^ 86 * K))

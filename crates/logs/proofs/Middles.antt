@@ -2,12 +2,12 @@
 use Rattle.std.proofs.Common.{◌≡◌, ℕ, ◌+◌, ◌-◌, ◌*◌, ◌^◌, ◌<◌, ◌≤◌, false, ◌⊎◌, sym, refl, subst, inl, inr, mul-le-mul_right, eq-or-lt_of_le, mul-lt-mul_of_pos_right, arith, lit<, pow_pos}
 use lib.Ieee.{Float, neg}
 use Rattle.units.specs.Units.{P, N, Number, Lt}
-use Rattle.units.proofs.Opposite.{opposite, opposite-plus, opposite-minus}
+use Rattle.units.proofs.Opposite.{opposite, opposite_plus, opposite_minus}
 use Rattle.units.proofs.Bits.{Is}
-use Rattle.fixed.proofs.Nearest.{Middle, nearest-above, nearest-below}
+use Rattle.fixed.proofs.Nearest.{Middle, nearest_above, nearest_below}
 use Rattle.exact.specs.Power.{AtLeast, LessThan, MoreThan}
 use Rattle.exact.proofs.Power.{most_of_larger, least_of_smaller}
-use Rattle.exact.proofs.Strict.{less-most, more-least}
+use Rattle.exact.proofs.Strict.{less_most, more_least}
 use Rattle.exact.proofs.Exponents.{more_of_smaller, less_wider, more_narrower, less_mirrored, more_mirrored}
 use Rattle.logs.specs.Log2.{AroundLog, log2_error_num, log2_error_den}
 
@@ -32,8 +32,8 @@ pub record Found (n d T : ℕ) : Type 0 where
 
 -- r is the float nearest to log2 (n / d)
 pub record Nearest (n d : ℕ) (r : Float) : Type 0 where
-  pub from-above : (z : Float) → Number z → Lt r z → LessThan n d (P r + P z) (N r + N z) Q
-  pub from-below : (z : Float) → Number z → Lt z r → MoreThan n d (P r + P z) (N r + N z) Q
+  pub from_above : (z : Float) → Number z → Lt r z → LessThan n d (P r + P z) (N r + N z) Q
+  pub from_below : (z : Float) → Number z → Lt z r → MoreThan n d (P r + P z) (N r + N z) Q
 
 -- ---- over plain numbers: a significand S, a step G and the unit U
 
@@ -82,13 +82,13 @@ module _ (n d S g : ℕ) (h : Rounds n d S g) where
 
   -- so no float is as near as that of S steps
   pub rounds_nearest : (r : Float) → Is r false (S * 2 ^ g) → Nearest n d r
-  rounds_nearest r is = record { from-above = up; from-below = down }
+  rounds_nearest r is = record { from_above = up; from_below = down }
     where
       up : (z : Float) → Number z → Lt r z → LessThan n d (P r + P z) (N r + N z) Q
-      up z k l = let (a, b) = nearest-above Over Under S g h.least middle r is z k l in less_wider (restored (P r + P z) (N r + N z) a) b
+      up z k l = let (a, b) = nearest_above Over Under S g h.least middle r is z k l in less_wider (restored (P r + P z) (N r + N z) a) b
 
       down : (z : Float) → Number z → Lt z r → MoreThan n d (P r + P z) (N r + N z) Q
-      down z k l = elim (nearest-below Over Under S g h.least middle r is z k l) [
+      down z k l = elim (nearest_below Over Under S g h.least middle r is z k l) [
         | inl a ↦ more_narrower (below-zero (P r + P z) (N r + N z) ((2 * S - 1) * 2 ^ g) a) h.under
         | inr b ↦ more_narrower (kept (P r + P z) (N r + N z)) b
       ]
@@ -101,25 +101,25 @@ module _ (n d S g : ℕ) (h : Rounds n d S g) where
       go (inr l) =
           let (T, e, d', k) = before S l in
           subst (λ (i : ℕ). AtLeast n d (i * 2 ^ g * 2 ^ 24) 0 (2 ^ 149 * (2 ^ 24 + 1))) (sym e)
-          (least_of_smaller (lit< tt) (half_below T (2 ^ g) (2 ^ 149) k) (more-least (subst (λ (i : ℕ). MoreThan n d (i * 2 ^ g) 0 Q) d' h.under)))
+          (least_of_smaller (lit< tt) (half_below T (2 ^ g) (2 ^ 149) k) (more_least (subst (λ (i : ℕ). MoreThan n d (i * 2 ^ g) 0 Q) d' h.under)))
 
   -- and they are within 2 ^ -24 of the logarithm
   pub rounds_near : AroundLog log2_error_num log2_error_den (S * 2 ^ g) n d
-  rounds_near = record { least = low; most = most_of_larger (lit< tt) (half_above S (2 ^ g) (2 ^ 149) h.least) (less-most h.over) }
+  rounds_near = record { least = low; most = most_of_larger (lit< tt) (half_above S (2 ^ g) (2 ^ 149) h.least) (less_most h.over) }
 
 -- ---- the other sign: the opposite float is nearest to the logarithm of the reciprocal
 module _ (n d : ℕ) (pos : 0 < n) (r : Float) (k : Number r) (h : Nearest n d (neg r)) where
   -- a sum with the opposite floats
   plus : (z : Float) → Number z → P (neg r) + P (neg z) ≡ N r + N z
-  plus z l = rw (opposite-plus r k, opposite-plus z l) refl
+  plus z l = rw (opposite_plus r k, opposite_plus z l) refl
 
   minus : (z : Float) → Number z → N (neg r) + N (neg z) ≡ P r + P z
-  minus z l = rw (opposite-minus r k, opposite-minus z l) refl
+  minus z l = rw (opposite_minus r k, opposite_minus z l) refl
 
   pub mirrored_nearest : Nearest d n r
   mirrored_nearest = record {
-    from-above = λ z l o. rw (plus z l, minus z l) at (less_mirrored (h.from-below (neg z) (opposite z l) (rw (opposite-plus r k, opposite-minus r k, opposite-plus z l, opposite-minus z l) (turned (P r) (N r) (P z) (N z) o))));
-    from-below = λ z l o. rw (plus z l, minus z l) at (more_mirrored pos (h.from-above (neg z) (opposite z l) (rw (opposite-plus r k, opposite-minus r k, opposite-plus z l, opposite-minus z l) (turned (P z) (N z) (P r) (N r) o))));
+    from_above = λ z l o. rw (plus z l, minus z l) at (less_mirrored (h.from_below (neg z) (opposite z l) (rw (opposite_plus r k, opposite_minus r k, opposite_plus z l, opposite_minus z l) (turned (P r) (N r) (P z) (N z) o))));
+    from_below = λ z l o. rw (plus z l, minus z l) at (more_mirrored pos (h.from_above (neg z) (opposite z l) (rw (opposite_plus r k, opposite_minus r k, opposite_plus z l, opposite_minus z l) (turned (P z) (N z) (P r) (N r) o))));
   }
     where
       turned : (p m q o : ℕ) → p + o < q + m → o + p < m + q

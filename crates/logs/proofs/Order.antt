@@ -3,7 +3,7 @@ use Rattle.std.proofs.Common.{◌≡◌, ℕ, ◌+◌, ◌*◌, ◌^◌, ◌<◌
 use lib.Ieee.{Float, binary32, to_bits}
 use Rattle.exact.specs.Power.{AtMost, AtLeast}
 use Rattle.exact.specs.Polynomial.{value}
-use Rattle.exact.proofs.Power.{most_of_larger, least_of_smaller, least_of_more, least-mul}
+use Rattle.exact.proofs.Power.{most_of_larger, least_of_smaller, least_of_more, least_mul}
 use Rattle.exact.proofs.Ratio.{exponents_over}
 use Rattle.exact.proofs.Tight.{upper, tight_above}
 use Rattle.units.specs.Units.{mag, Le}
@@ -53,7 +53,7 @@ module _ (x x' : Float) (a : Accepts x) (a' : Accepts x') where
   rises l =
       let g = gap x x' a a' l in
       let t : AtLeast (2 ^ 24 + 1) (2 ^ 24) (2 ^ 30) 0 (2 ^ 54) = least_of_smaller (lit< tt) (lit≤ tt) tick in
-      let above = least_of_more (lit< tt) (crossed (mag x) (mag x') g) (least-mul (fixed_least x' a') t) in
+      let above = least_of_more (lit< tt) (crossed (mag x) (mag x') g) (least_mul (fixed_least x' a') t) in
       apart (fixed_of x) (fixed_of x') (exponents_over above (fixed_most x a))
     where
       crossed : (X X' : ℕ) → X' * (2 ^ 24 + 1) ≤ X * 2 ^ 24 → X' * (2 ^ 24 + 1) * 2 ^ 22 ≤ X * (2 ^ 22 * 2 ^ 24)
@@ -72,4 +72,4 @@ module _ (x x' : Float) (a : Accepts x) (a' : Accepts x') where
   fixed_order l = elim (eq-or-lt_of_le in_units) [ inl e ↦ le_of_eq (ap fixed_bits (same_bits e)) | inr h ↦ le_of_lt (rises h) ]
     where
       in_units : mag x' ≤ mag x
-      in_units = omega (arith, size-sum x, size-sum x', a.at-least-zero, a'.at-least-zero)
+      in_units = omega (arith, size-sum x, size-sum x', a.at_least_zero, a'.at_least_zero)

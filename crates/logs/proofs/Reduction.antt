@@ -7,14 +7,14 @@ use Rattle.exact.specs.Power.{AtMost, AtLeast}
 use Rattle.exact.proofs.Power.{at_most, at_least, most_of_less, least_of_more, most_of_larger, least_of_smaller, most_shift, least_shift}
 use Rattle.units.specs.Units.{mag}
 use Rattle.units.proofs.Naturals.{le-or-lt, pow_back_lt}
-use Rattle.units.proofs.Signs.{sign-plus}
+use Rattle.units.proofs.Signs.{sign_plus}
 use Rattle.units.proofs.Size.{mag-lt}
 use Rattle.units.proofs.Bits.{pattern_normal}
 use Rattle.units.specs.Units.{Positive}
 use Rattle.fixed.specs.Parts.{Apart}
 use Rattle.fixed.specs.Horner.{horner}
-use Rattle.fixed.proofs.Horner.{horner-first}
-use Rattle.fixed.proofs.Take.{apart-high, unique}
+use Rattle.fixed.proofs.Horner.{horner_first}
+use Rattle.fixed.proofs.Take.{apart_high, unique}
 use Rattle.logs.specs.Rows.{row}
 use Rattle.logs.specs.Log2.{Accepts}
 use Rattle.logs.specs.Value.{slope, nearer, fixed_bits, fixed_of}
@@ -79,10 +79,10 @@ first_of : List ℕ → ℕ
 first_of [] = 0
 first_of (c ∷ cs) = c
 
-first-least : (D : ℕ) (cs : List ℕ) (f : ℕ) → first_of cs ≤ horner D cs f
+first_least : (D : ℕ) (cs : List ℕ) (f : ℕ) → first_of cs ≤ horner D cs f
 unfolding first_of
-first-least D [] f = zero-le
-first-least D (c ∷ cs) f = horner-first D c cs f
+first_least D [] f = zero-le
+first_least D (c ∷ cs) f = horner_first D c cs f
 
 firsts : ℕ → ℕ → Bool
 unfolding first_of
@@ -101,9 +101,9 @@ first_large : (i : ℕ) → i < 16 → 2 ^ 30 ≤ first_of (row i)
 unfolding firsts
 first_large = first_of_lem (2 ^ 30) 16 tt
 
-first-low : (i : ℕ) → i < 7 → 2 ^ 31 ≤ first_of (row i)
+first_low : (i : ℕ) → i < 7 → 2 ^ 31 ≤ first_of (row i)
 unfolding firsts
-first-low = first_of_lem (2 ^ 31) 7 tt
+first_low = first_of_lem (2 ^ 31) 7 tt
 
 -- ---- the pattern b of a float: its exponent field, its sixteenth and the digits after
 module _ (b : ℕ) where
@@ -170,30 +170,30 @@ module _ (b : ℕ) where
   ]
 
   -- it is at least the row's first coefficient
-  slope-least : first_of (row i) ≤ slope b
+  slope_least : first_of (row i) ≤ slope b
   unfolding slope
-  slope-least = first-least 4294967296 (row i) (v * 512)
+  slope_least = first_least 4294967296 (row i) (v * 512)
 
   -- the whole part of the logarithm in fixed point is the exponent; where there is a fraction, it and what it lacks to 1 are not the least
   pub fraction_bounds : (b / 8388608 * 2 ^ 54 ≤ fixed_bits b) × (b / 8388608 * 2 ^ 54 < fixed_bits b → b / 8388608 * 2 ^ 54 + 2 ^ 31 ≤ fixed_bits b) × (fixed_bits b + 2 ^ 30 ≤ (b / 8388608 + 1) * 2 ^ 54)
   fraction_bounds = elim (le-or-lt 7 i) [
     | inl h ↦
-        let F = times-least below (slope b) (omega arith) in
+        let F = times_least below (slope b) (omega arith) in
         let k = first_large i (omega arith) in
         let f = fixed_below_lem h in
         let s = (sixteenth_below h).small in
-        let l = slope-least in
+        let l = slope_least in
         (omega arith, λ g. omega arith, omega arith)
     | inr h ↦
-        let k = first-low i h in
+        let k = first_low i h in
         let f = fixed_above_lem h in
         let s = (sixteenth_above h).small in
-        let l = slope-least in
-        (omega arith, λ g. omega (arith, times-least above (slope b) (some above (slope b) (omega arith))), omega arith)
+        let l = slope_least in
+        (omega arith, λ g. omega (arith, times_least above (slope b) (some above (slope b) (omega arith))), omega arith)
   ]
     where
-      times-least : (n p : ℕ) → 0 < n → p ≤ n * p
-      times-least n p pos = omega (arith, mul-le-mul_right p pos)
+      times_least : (n p : ℕ) → 0 < n → p ≤ n * p
+      times_least n p pos = omega (arith, mul-le-mul_right p pos)
 
       some : (n p : ℕ) → 0 < n * p → 0 < n
       some n p h = elim (le-or-lt n 0) [ inl z ↦ let e : n ≡ 0 = omega arith in absurd (omega (arith, rw (e, zero-mul p) at h)) | inr l ↦ l ]
@@ -216,23 +216,23 @@ module _ (b : ℕ) where
 pub positive : (x : Float) → Accepts x → Positive x
 positive x a =
     let l = lt_of_lt_of_le (lit< tt) a.normal in
-    record { number = a.number; sign = sign-plus x a.at-least-zero l; above = l }
+    record { number = a.number; sign = sign_plus x a.at_least_zero l; above = l }
 
 module _ (x : Float) (a : Accepts x) where
   abbrev bits : ℕ
   bits = to_bits binary32 x
 
   -- its pattern is that of a normal number
-  pub normal-bits : 2 ^ 23 ≤ bits
-  normal-bits = let n = pattern_normal x a.number a.normal in rw n.bits (omega (arith, n.least))
+  pub normal_bits : 2 ^ 23 ≤ bits
+  normal_bits = let n = pattern_normal x a.number a.normal in rw n.bits (omega (arith, n.least))
 
   -- and is taken apart by its digits
   pub parts : Apart x (bits % 8388608 + 8388608) (bits / 8388608 + 23)
-  parts = apart-high x (positive x a) normal-bits
+  parts = apart_high x (positive x a) normal_bits
 
   -- below the infinity's
-  pub bits-few : bits < 255 * 8388608
-  bits-few = let h = parts.high in omega arith
+  pub bits_few : bits < 255 * 8388608
+  bits_few = let h = parts.high in omega arith
 
   -- its units by its pattern
   pub units_by : mag x * 2 ≡ (bits % 8388608 + 8388608) * 2 ^ (bits / 8388608)
@@ -241,7 +241,7 @@ module _ (x : Float) (a : Accepts x) where
   -- the logarithm in fixed point, read
   pub reading : Read (mag x) (fixed_of x)
   unfolding fixed_of
-  reading = read_bits bits (mag x) parts.same (omega (arith, bits-few))
+  reading = read_bits bits (mag x) parts.same (omega (arith, bits_few))
 
   -- of 2 ^ j units it is j - 22
   pub whole_fixed : (j : ℕ) → mag x ≡ 2 ^ j → fixed_of x + 22 * 2 ^ 54 ≡ j * 2 ^ 54

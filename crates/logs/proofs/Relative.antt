@@ -52,14 +52,14 @@ over_one X W r = (
 pub in_steps : (X W : ℕ) → Read X W → InSteps X (2 ^ 149) (steps_above W) (steps_below W)
 in_steps X W r = record {
   least =
-      least_over (sum_below W r.F near-one)
+      least_over (sum_below W r.F near_one)
       (least_of_smaller (lit< tt) (le_of_eq (twice (2 ^ 32 * W + 0 * 2 ^ 86) (5 * r.F + 127 * 2 ^ 86) (2 ^ 86)))
       (over_one X W r).0);
   most =
-      most_over (sum-above W r.F near-one)
+      most_over (sum-above W r.F near_one)
       (most_of_larger (lit< tt) (le_of_eq (sym (twice (2 ^ 32 * W + 5 * r.F + 0 * 2 ^ 86) (0 + 127 * 2 ^ 86) (2 ^ 86))))
       (over_one X W r).1);
 }
   where
-    near-one : 2 * r.F ≤ 3 * (steps_above W + steps_below W)
-    near-one = distance r.k r.F W r.place r.small
+    near_one : 2 * r.F ≤ 3 * (steps_above W + steps_below W)
+    near_one = distance r.k r.F W r.place r.small

@@ -21,9 +21,9 @@ unfolding sign_of
 sign_below w h = rw (lt-ltb w log_of_one h)
 
 -- one bit
-pub sign-few : (w : ℕ) → sign_of w ≤ 2147483648
+pub sign_few : (w : ℕ) → sign_of w ≤ 2147483648
 unfolding sign_of
-sign-few w = either (ltb w log_of_one)
+sign_few w = either (ltb w log_of_one)
   where
     either : (s : Bool) → cond s 2147483648 0 ≤ 2147483648
     either true = omega arith
@@ -37,9 +37,9 @@ abbrev pub digits_at : ℕ → ℕ → ℕ
 digits_at b w = log2_digits b w (first_word (distance_of w)) (zeros_of w)
 
 -- no more than 24, or a carry
-pub digits-few : (b w u z : ℕ) → u < 4294967296 → log2_digits b w u z ≤ 2 ^ 24
+pub digits_few : (b w u z : ℕ) → u < 4294967296 → log2_digits b w u z ≤ 2 ^ 24
 unfolding log2_digits settled_digits
-digits-few b w u z h = either (is_left_open u (width_of z)) (u / 256 + cond (ltb w log_of_one) (cond (is_above b (fraction_of w u z)) 0 1) (cond (is_above b (fraction_of w u z)) 1 0)) ((u / 128 + 1) / 2) (one (ltb w log_of_one) (is_above b (fraction_of w u z))) (omega arith)
+digits_few b w u z h = either (is_left_open u (width_of z)) (u / 256 + cond (ltb w log_of_one) (cond (is_above b (fraction_of w u z)) 0 1) (cond (is_above b (fraction_of w u z)) 1 0)) ((u / 128 + 1) / 2) (one (ltb w log_of_one) (is_above b (fraction_of w u z))) (omega arith)
   where
     either : (o : Bool) (x y : ℕ) → x ≤ 2 ^ 24 → y ≤ 2 ^ 24 → cond o x y ≤ 2 ^ 24
     either true x y k l = k
@@ -59,9 +59,9 @@ first_fits n pos h = let p = fixed.placed n pos h in omega (arith, p.high)
 -- ---- the pattern
 module _ (b w : ℕ) where
   -- of log2 1
-  pub none-bits : distance_of w ≡ 0 → rounded_bits b w ≡ 0
+  pub none_bits : distance_of w ≡ 0 → rounded_bits b w ≡ 0
   unfolding rounded_bits
-  none-bits h = rw (eq-eqb (distance_of w) 0 h) refl
+  none_bits h = rw (eq-eqb (distance_of w) 0 h) refl
 
   module _ (pos : 0 < distance_of w) where
     -- of any other
@@ -70,16 +70,16 @@ module _ (b w : ℕ) where
     some_bits = rw (ne_eqb (distance_of w) 0 (λ e. omega arith)) refl
 
     below_infinity : distance_of w < 2 ^ 64 → (135 - zeros_of w) * 8388608 + digits_at b w < 255 * 8388608
-    below_infinity h = omega (arith, digits-few b w (first_word (distance_of w)) (zeros_of w) (first_fits (distance_of w) pos h))
+    below_infinity h = omega (arith, digits_few b w (first_word (distance_of w)) (zeros_of w) (first_fits (distance_of w) pos h))
 
     -- it is the float of its digits
     pub is_float : distance_of w < 2 ^ 64 → 2 ^ 23 ≤ digits_at b w → Is (of_bits binary32 (rounded_bits b w)) (ltb w log_of_one) (digits_at b w * 2 ^ (135 - zeros_of w))
-    is_float h least = rw some_bits (put (ltb w log_of_one) (digits_at b w) (135 - zeros_of w) (inr least) (digits-few b w (first_word (distance_of w)) (zeros_of w) (first_fits (distance_of w) pos h)) (below_infinity h))
+    is_float h least = rw some_bits (put (ltb w log_of_one) (digits_at b w) (135 - zeros_of w) (inr least) (digits_few b w (first_word (distance_of w)) (zeros_of w) (first_fits (distance_of w) pos h)) (below_infinity h))
 
   -- it fits a word, and is that of its float
   pub rounded_back : w < 2 ^ 63 → to_bits binary32 (of_bits binary32 (rounded_bits b w)) ≡ rounded_bits b w
   rounded_back h = elim (eq-zero-or-pos (distance_of w)) [
-    | inl z ↦ rw (none-bits z) (pattern_back 0 (omega arith) (no_nan false 0 (omega arith)))
+    | inl z ↦ rw (none_bits z) (pattern_back 0 (omega arith) (no_nan false 0 (omega arith)))
     | inr l ↦ rw (some_bits l) (pattern_back _ (fits (ltb w log_of_one) _ (below_infinity l (omega arith))) (no_nan (ltb w log_of_one) _ (below_infinity l (omega arith))))
   ]
     where

@@ -3,7 +3,7 @@
 use Rattle.std.proofs.Common.{◌≡◌, ℕ, zero, suc, ◌+◌, ◌-◌, ◌*◌, ◌^◌, ◌<◌, ◌≤◌, Bool, true, false, cond, ◌&&◌, T, ltb, leb, List, [], ◌∷◌, length, get_or, take, drop, refl, ap, inl, inr, le_trans, le_of_suc-le-suc, lt_of_le_of_lt, add-zero, add-suc, mul-le-mul, suc-add, mul-le-mul_left, zero-add, arith, lit<, lit≤, ltb→lt, leb→le, get_or-drop, get_or-take, le-ltb, lt-ltb}
 use lib.Ieee.Fits.{and_l, and_r}
 use Rattle.exact.specs.Polynomial.{value}
-use Rattle.exact.proofs.Polynomial.{value-scale, value_linear}
+use Rattle.exact.proofs.Polynomial.{value_scale, value_linear}
 use Rattle.exact.proofs.Forms.{mul, value-mul, length-mul}
 use Rattle.units.proofs.Naturals.{le-or-lt}
 use Rattle.fixed.specs.Horner.{horner}
@@ -54,7 +54,7 @@ module _ (i c b : ℕ) (cs : List ℕ) (few : length cs ≤ 3) (large : 5 * 2 ^ 
     M = (mirror 16 4 all).1
 
     mirrored : exact * 16 ^ 4 + value 4 M y' D ≡ value 4 P y' D
-    mirrored = rw (value-scale 4 all (v * 512) D 16 (omega arith)) at (value_mirror 16 4 all y' D (v * 512 * 16) (omega arith) (omega arith))
+    mirrored = rw (value_scale 4 all (v * 512) D 16 (omega arith)) at (value_mirror 16 4 all y' D (v * 512 * 16) (omega arith) (omega arith))
 
     low_z : value 1 lin y' D * (exact * 16 ^ 4) + value 5 (mul lin M) y' D ≡ value 5 (mul lin P) y' D
     low_z =
@@ -133,39 +133,39 @@ module _ (i c b : ℕ) (cs : List ℕ) (t : T (passes i (c ∷ b ∷ cs))) where
   unfolding passes
   few_of = leb→le (length cs) 3 (and_l (leb (length cs) 3) _ t)
 
-  after-few : T (leb (5 * 2 ^ 28) c && (ltb (top all_of) (2 ^ 32) && (leb (5 * (far i * top all_of)) (3 * 2 ^ 54) && cond (ltb i 7) (low_test i all_of) (high_test i all_of))))
+  after_few : T (leb (5 * 2 ^ 28) c && (ltb (top all_of) (2 ^ 32) && (leb (5 * (far i * top all_of)) (3 * 2 ^ 54) && cond (ltb i 7) (low_test i all_of) (high_test i all_of))))
   unfolding passes
-  after-few = and_r (leb (length cs) 3) _ t
+  after_few = and_r (leb (length cs) 3) _ t
 
   large_of : 5 * 2 ^ 28 ≤ c
-  large_of = leb→le (5 * 2 ^ 28) c (and_l (leb (5 * 2 ^ 28) c) _ after-few)
+  large_of = leb→le (5 * 2 ^ 28) c (and_l (leb (5 * 2 ^ 28) c) _ after_few)
 
   after_large : T (ltb (top all_of) (2 ^ 32) && (leb (5 * (far i * top all_of)) (3 * 2 ^ 54) && cond (ltb i 7) (low_test i all_of) (high_test i all_of)))
-  after_large = and_r (leb (5 * 2 ^ 28) c) _ after-few
+  after_large = and_r (leb (5 * 2 ^ 28) c) _ after_few
 
   digits_of : top all_of < 2 ^ 32
   digits_of = ltb→lt (top all_of) (2 ^ 32) (and_l (ltb (top all_of) (2 ^ 32)) _ after_large)
 
-  after-digits : T (leb (5 * (far i * top all_of)) (3 * 2 ^ 54) && cond (ltb i 7) (low_test i all_of) (high_test i all_of))
-  after-digits = and_r (ltb (top all_of) (2 ^ 32)) _ after_large
+  after_digits : T (leb (5 * (far i * top all_of)) (3 * 2 ^ 54) && cond (ltb i 7) (low_test i all_of) (high_test i all_of))
+  after_digits = and_r (ltb (top all_of) (2 ^ 32)) _ after_large
 
   small_of : 5 * (far i * top all_of) ≤ 3 * 2 ^ 54
-  small_of = leb→le (5 * (far i * top all_of)) (3 * 2 ^ 54) (and_l (leb (5 * (far i * top all_of)) (3 * 2 ^ 54)) _ after-digits)
+  small_of = leb→le (5 * (far i * top all_of)) (3 * 2 ^ 54) (and_l (leb (5 * (far i * top all_of)) (3 * 2 ^ 54)) _ after_digits)
 
   side_of : T (cond (ltb i 7) (low_test i all_of) (high_test i all_of))
-  side_of = and_r (leb (5 * (far i * top all_of)) (3 * 2 ^ 54)) _ after-digits
+  side_of = and_r (leb (5 * (far i * top all_of)) (3 * 2 ^ 54)) _ after_digits
 
   -- at the distance v from the upper end
   module _ (v y : ℕ) (whole : v + y ≡ 2 ^ 19) where
-    p-top : horner D all_of (v * 512) ≤ top all_of
+    p_top : horner D all_of (v * 512) ≤ top all_of
     unfolding top
-    p-top = horner_mono D all_of (lit< tt) (omega arith)
+    p_top = horner_mono D all_of (lit< tt) (omega arith)
 
     small_at : (n : ℕ) → n ≤ far i → 5 * (n * horner D all_of (v * 512)) ≤ 3 * 2 ^ 54
-    small_at n h = le_trans (mul-le-mul_left 5 (mul-le-mul h p-top)) small_of
+    small_at n h = le_trans (mul-le-mul_left 5 (mul-le-mul h p_top)) small_of
 
-    p-digits : horner D all_of (v * 512) < 2 ^ 32
-    p-digits = lt_of_le_of_lt p-top digits_of
+    p_digits : horner D all_of (v * 512) < 2 ^ 32
+    p_digits = lt_of_le_of_lt p_top digits_of
 
 module _ (v y : ℕ) (whole : v + y ≡ 2 ^ 19) where
   -- below the cut
@@ -175,7 +175,7 @@ module _ (v y : ℕ) (whole : v + y ≡ 2 ^ 19) where
   below_cut i (c ∷ []) t h = absurd (unfold passes in t)
   below_cut i (c ∷ b ∷ cs) t h =
       let s = small_at i c b cs t v y whole (i * 2 ^ 19 + y) (rw (lt-ltb i 7 h) (omega arith)) in
-      record { close = low_close i c b cs (few_of i c b cs t) (large_of i c b cs t) v y whole (rw (lt-ltb i 7 h) at (side_of i c b cs t)) s; small = s; digits = p-digits i c b cs t v y whole }
+      record { close = low_close i c b cs (few_of i c b cs t) (large_of i c b cs t) v y whole (rw (lt-ltb i 7 h) at (side_of i c b cs t)) s; small = s; digits = p_digits i c b cs t v y whole }
 
   -- from the cut on
   pub above_cut : (i : ℕ) (cs : List ℕ) → T (passes i cs) → 7 ≤ i → i ≤ 15 → 0 < v → Sixteenth (2 ^ 24) ((16 + i) * 2 ^ 19 + y) ((15 - i) * 2 ^ 19 + v) (horner D cs (v * 512))
@@ -184,7 +184,7 @@ module _ (v y : ℕ) (whole : v + y ≡ 2 ^ 19) where
   above_cut i (c ∷ []) t h l pos = absurd (unfold passes in t)
   above_cut i (c ∷ b ∷ cs) t h l pos =
       let s = small_at i c b cs t v y whole ((15 - i) * 2 ^ 19 + v) (rw (le-ltb i 7 h) (omega arith)) in
-      record { close = high_close i c b cs (few_of i c b cs t) (large_of i c b cs t) v y whole l pos (rw (le-ltb i 7 h) at (side_of i c b cs t)) s; small = s; digits = p-digits i c b cs t v y whole }
+      record { close = high_close i c b cs (few_of i c b cs t) (large_of i c b cs t) v y whole l pos (rw (le-ltb i 7 h) at (side_of i c b cs t)) s; small = s; digits = p_digits i c b cs t v y whole }
 
 -- ---- all rows
 unfoldable pub pass_all : ℕ → List (List ℕ) → Bool
@@ -203,15 +203,15 @@ low_rows : T (pass_all 0 (take 7 rows))
 unfolding pass_all
 low_rows = tt
 
-high-rows : T (pass_all 7 (drop 7 rows))
+high_rows : T (pass_all 7 (drop 7 rows))
 unfolding pass_all
-high-rows = tt
+high_rows = tt
 
 -- every row passes
 pub row_passes : (i : ℕ) → i < 16 → T (passes i (row i))
 row_passes i h = elim (le-or-lt 7 i) [
   | inl l ↦
       let e : 7 + (i - 7) ≡ i = omega arith in
-      rw (get_or-drop 7 rows (i - 7) [], e) at (one_of (drop 7 rows) 7 (i - 7) high-rows (omega arith))
+      rw (get_or-drop 7 rows (i - 7) [], e) at (one_of (drop 7 rows) 7 (i - 7) high_rows (omega arith))
   | inr l ↦ rw (get_or-take 7 rows i [] l, zero-add) at (one_of (take 7 rows) 0 i low_rows l)
 ]

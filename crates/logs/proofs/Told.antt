@@ -4,7 +4,7 @@ use Rattle.std.proofs.Common.{◌≡◌, ℕ, suc, ◌+◌, ◌-◌, ◌*◌, �
 use Rattle.units.proofs.Naturals.{le-or-lt}
 use Rattle.exact.specs.Power.{AtLeast, LessThan, MoreThan}
 use Rattle.exact.proofs.Power.{least_of_smaller}
-use Rattle.exact.proofs.Strict.{more-least}
+use Rattle.exact.proofs.Strict.{more_least}
 use Rattle.fixed.proofs.Rounding.{Placed}
 use Rattle.logs.specs.Value.{width_of, is_left_open}
 use Rattle.logs.proofs.Middles.{Q, Rounds, Found}
@@ -31,9 +31,9 @@ width_most z = either (ltb z 10)
     either false = omega arith
 
 -- ---- digits that are open are not zeros alone: no more than 39 zeros stand before them
-near-middle : (u h : ℕ) → is_left_open u h ≡ true → (u % 256 + 128 + h) % 256 < 2 * h
+near_middle : (u h : ℕ) → is_left_open u h ≡ true → (u % 256 + 128 + h) % 256 < 2 * h
 unfolding is_left_open
-near-middle u h o = ltb-true ((u % 256 + 128 + h) % 256) (2 * h) o
+near_middle u h o = ltb-true ((u % 256 + 128 + h) % 256) (2 * h) o
 
 far_off : (u h : ℕ) → is_left_open u h ≡ false → 2 * h ≤ (u % 256 + 128 + h) % 256
 unfolding is_left_open
@@ -45,7 +45,7 @@ few_zeros A z h most o = elim (le-or-lt z 39) [
   | inr l ↦
       let e : z ≡ 40 + (z - 40) = omega arith in
       let f : A * 2 ^ z / 4294967296 ≡ A * 2 ^ (z - 40) * 256 = ap (λ (i : ℕ). A * 2 ^ i / 4294967296) e ∙ rw (pow-add 2 40 (z - 40)) (cut A (2 ^ (z - 40))) in
-      absurd (omega (arith, near-middle (A * 2 ^ z / 4294967296) h o))
+      absurd (omega (arith, near_middle (A * 2 ^ z / 4294967296) h o))
 ]
   where
     cut : (a U : ℕ) → a * (2 ^ 40 * U) / 4294967296 ≡ a * U * 256
@@ -74,7 +74,7 @@ module _ (n d A z h : ℕ) (most-h : h ≤ 8) (known : Known n d A z h) (p : Pla
 
   -- no less than S steps
   from_first : (S : ℕ) → S * 2 ^ 40 + h * 2 ^ 32 ≤ R → AtLeast n d (S * 2 ^ (135 - z)) 0 (2 ^ 149)
-  from_first S l = least_of_smaller (lit< tt) (le_of_eq (twice S (2 ^ (135 - z)) (2 ^ 149))) (more-least (half_under (2 * S) (omega arith)))
+  from_first S l = least_of_smaller (lit< tt) (le_of_eq (twice S (2 ^ (135 - z)) (2 ^ 149))) (more_least (half_under (2 * S) (omega arith)))
     where
       twice : (S G U : ℕ) → S * G * (2 * U) + 0 * U ≡ 2 * S * G * U + 0 * (2 * U)
       twice S G U = omega arith
@@ -82,8 +82,8 @@ module _ (n d A z h : ℕ) (most-h : h ≤ 8) (known : Known n d A z h) (p : Pla
   abbrev u : ℕ
   u = R / 4294967296
 
-  first-digits : 2 ^ 31 ≤ u
-  first-digits = omega (arith, p.low)
+  first_digits_lem : 2 ^ 31 ≤ u
+  first_digits_lem = omega (arith, p.low)
 
   -- ---- where no middle is near
   module _ (shut : is_left_open u h ≡ false) where
@@ -95,7 +95,7 @@ module _ (n d A z h : ℕ) (most-h : h ≤ 8) (known : Known n d A z h) (p : Pla
 
     S_least : 2 ^ 23 ≤ S
     unfolding S
-    S_least = omega (arith, first-digits)
+    S_least = omega (arith, first_digits_lem)
 
     S_most : S ≤ 2 ^ 24
     unfolding S
@@ -111,7 +111,7 @@ module _ (n d A z h : ℕ) (most-h : h ≤ 8) (known : Known n d A z h) (p : Pla
 
     down : (2 * S - 1) * 2 ^ 39 + h * 2 ^ 32 ≤ R
     unfolding S
-    down = elim sides [ inl k ↦ omega (arith, first-digits) | inr k ↦ omega (arith, first-digits) ]
+    down = elim sides [ inl k ↦ omega (arith, first_digits_lem) | inr k ↦ omega (arith, first_digits_lem) ]
 
     -- S steps; so near to the least significand that the logarithm may be less, they are twice as many steps of half the size
     shut_found : Found n d (S * 2 ^ (135 - z))
@@ -132,7 +132,7 @@ module _ (n d A z h : ℕ) (most-h : h ≤ 8) (known : Known n d A z h) (p : Pla
             least = omega (arith, S_least);
             most = omega arith;
             over = known.over (2 * (2 * S) + 1) (omega arith);
-            under = known.under (2 * (2 * S) - 1) (omega (arith, S_least, first-digits));
+            under = known.under (2 * (2 * S) - 1) (omega (arith, S_least, first_digits_lem));
             first = λ e. absurd (omega (arith, S_least));
           };
         }
@@ -144,13 +144,13 @@ module _ (n d A z h : ℕ) (most-h : h ≤ 8) (known : Known n d A z h) (p : Pla
   -- ---- where one is: it is the middle above S steps
   module _ (open-u : is_left_open u h ≡ true) where
     near : (128 ≤ u % 256 + h) × (u % 256 < 128 + h)
-    near = let o = near-middle u h open-u in (elim (le-or-lt 128 (u % 256 + h)) [ inl l ↦ l | inr l ↦ absurd (omega arith) ], elim (le-or-lt (128 + h) (u % 256)) [ inl l ↦ absurd (omega arith) | inr l ↦ l ])
+    near = let o = near_middle u h open-u in (elim (le-or-lt 128 (u % 256 + h)) [ inl l ↦ l | inr l ↦ absurd (omega arith) ], elim (le-or-lt (128 + h) (u % 256)) [ inl l ↦ absurd (omega arith) | inr l ↦ l ])
 
-    pub middle-above : R ≤ (2 * (u / 256) + 1) * 2 ^ 39 + 2 ^ 35
-    middle-above = omega (arith, near.0, near.1)
+    pub middle_above : R ≤ (2 * (u / 256) + 1) * 2 ^ 39 + 2 ^ 35
+    middle_above = omega (arith, near.0, near.1)
 
-    pub middle-below : (2 * (u / 256) + 1) * 2 ^ 39 ≤ R + 2 ^ 35
-    middle-below = omega (arith, near.0, near.1)
+    pub middle_below : (2 * (u / 256) + 1) * 2 ^ 39 ≤ R + 2 ^ 35
+    middle_below = omega (arith, near.0, near.1)
 
     digits : (S : ℕ) → Rounds n d S (135 - z) → Digits n d S z
     digits S r = record { least = r.least; most = r.most; found = record { S = S; g = 135 - z; same = refl; rounds = r } }
@@ -158,7 +158,7 @@ module _ (n d A z h : ℕ) (most-h : h ≤ 8) (known : Known n d A z h) (p : Pla
     -- the logarithm is below it
     pub open_below : LessThan n d ((2 * (u / 256) + 1) * 2 ^ (135 - z)) 0 Q → Digits n d (u / 256) z
     open_below l = digits (u / 256) (record {
-      least = omega (arith, first-digits);
+      least = omega (arith, first_digits_lem);
       most = omega (arith, p.high);
       over = l;
       under = half_under (2 * (u / 256) - 1) (omega (arith, near.0, near.1));
@@ -168,11 +168,11 @@ module _ (n d A z h : ℕ) (most-h : h ≤ 8) (known : Known n d A z h) (p : Pla
     -- or above it
     pub open_above : MoreThan n d ((2 * (u / 256) + 1) * 2 ^ (135 - z)) 0 Q → Digits n d (u / 256 + 1) z
     open_above l = digits (u / 256 + 1) (record {
-      least = omega (arith, first-digits);
+      least = omega (arith, first_digits_lem);
       most = omega (arith, p.high);
       over = half_over (2 * (u / 256 + 1) + 1) (omega (arith, near.0, near.1));
       under = subst (λ (i : ℕ). MoreThan n d (i * 2 ^ (135 - z)) 0 Q) (odd (u / 256)) l;
-      first = λ e. absurd (omega (arith, first-digits));
+      first = λ e. absurd (omega (arith, first_digits_lem));
     })
       where
         odd : (s : ℕ) → 2 * s + 1 ≡ 2 * (s + 1) - 1

@@ -3,12 +3,12 @@ use Rattle.std.proofs.Common.{◌+◌, inl, inr, add_comm}
 use lib.Ieee.{Float}
 use Rattle.units.specs.Units.{P, N, Number, Le, Lt}
 use Rattle.units.proofs.Naturals.{le-or-lt}
-use Rattle.exact.proofs.Strict.{less-most, not_both}
+use Rattle.exact.proofs.Strict.{less_most, not_both}
 use Rattle.logs.specs.Log2.{NearestLog}
 
 -- neither is above the other: the middle of both would lie on two sides of the logarithm
 never_above : (x r r' : Float) → Number r → Number r' → NearestLog x r → NearestLog x r' → Lt r r' → ⊥
-never_above x r r' h h' n n' l = not_both (less-most (n.from-above r' h' l)) (rw (add_comm (P r) (P r'), add_comm (N r) (N r')) (n'.from-below r h l))
+never_above x r r' h h' n n' l = not_both (less_most (n.from_above r' h' l)) (rw (add_comm (P r) (P r'), add_comm (N r) (N r')) (n'.from_below r h l))
 
 pub log_unique : (x r r' : Float) → Number r → Number r' → NearestLog x r → NearestLog x r' → Le r r' × Le r' r
 log_unique x r r' h h' n n' = (at_most r r' (never_above x r' r h' h n' n), at_most r' r (never_above x r r' h h' n n'))

@@ -9,14 +9,14 @@ use Rattle.logs.specs.Value.{log2_of}
 -- accepted: the finite floats that are at least 2 ^ -126
 pub record Accepts (x : Float) : Type 0 where
   pub number : Number x
-  pub at-least-zero : N x ≡ 0
+  pub at_least_zero : N x ≡ 0
   pub normal : 2 ^ 23 ≤ mag x
 
 -- r is the float nearest to log2 x: of every other finite float z, log2 x lies on r's side of the middle of r and z, which is (P r + P z - (N r + N z)) / 2 units of 2 ^ -149.
 -- So no float is nearer, and no tie occurs
 pub record NearestLog (x r : Float) : Type 0 where
-  pub from-above : (z : Float) → Number z → Lt r z → LessThan (mag x) (2 ^ 149) (P r + P z) (N r + N z) (2 * 2 ^ 149)
-  pub from-below : (z : Float) → Number z → Lt z r → MoreThan (mag x) (2 ^ 149) (P r + P z) (N r + N z) (2 * 2 ^ 149)
+  pub from_above : (z : Float) → Number z → Lt r z → LessThan (mag x) (2 ^ 149) (P r + P z) (N r + N z) (2 * 2 ^ 149)
+  pub from_below : (z : Float) → Number z → Lt z r → MoreThan (mag x) (2 ^ 149) (P r + P z) (N r + N z) (2 * 2 ^ 149)
 
 -- t / (1 + a / b) ≤ log2 (n / d) ≤ t / (1 - a / b), for t of T units of 2 ^ -149
 pub record AroundLog (a b T n d : ℕ) : Type 0 where
@@ -46,7 +46,7 @@ pub record Log2 (x : Float) (code : ℕ) (r : Float) : Type 0 where
   -- the logarithm's sign: negative below 1, +0 at 1, positive above
   pub below_one : Accepts x → mag x < 2 ^ 149 → 0 < N r
   pub one : Accepts x → mag x ≡ 2 ^ 149 → r ≡ from_bits binary32 0
-  pub above-one : Accepts x → 2 ^ 149 < mag x → 0 < P r
+  pub above_one : Accepts x → 2 ^ 149 < mag x → 0 < P r
   -- exact at powers of two: of 2 ^ k units it is k - 149
   pub whole : Accepts x → (k : ℕ) → mag x ≡ 2 ^ k → P r + 149 * 2 ^ 149 ≡ k * 2 ^ 149 + N r
   -- a larger input never gives a smaller output

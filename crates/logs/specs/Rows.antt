@@ -32,4 +32,4 @@ pub record IsRow (i a b c d e : ℕ) : Type 0 where
   pub room_a : a < 2 ^ 32 - 2 ^ 28
   pub room_b : b < 2 ^ 32 - 2 ^ 28
   pub room_c : c < 2 ^ 32 - 2 ^ 28
-  pub room-d : d < 2 ^ 32 - 2 ^ 28
+  pub room_d : d < 2 ^ 32 - 2 ^ 28

@@ -35,8 +35,8 @@ module _ (a b m k j r : ℕ) (bm : b ≤ m) where
 
 -- the constant num / den as a larger one, num' / den': both sides raised to den', the exponent moved, and the root of den taken
 module _ (a b m k s num den num' den' : ℕ) (bm : b ≤ m) (pd : 0 < den) (le : num * den' ≤ num' * den) where
-  same-steps : den * k * den' ≡ den' * k * den
-  same-steps = omega arith
+  same_steps : den * k * den' ≡ den' * k * den
+  same_steps = omega arith
 
   below : RatioAtMost a b m (den * k) (den * s + num) → RatioAtMost a b m (den' * k) (den' * s + num')
   below h =
@@ -44,7 +44,7 @@ module _ (a b m k s num den num' den' : ℕ) (bm : b ≤ m) (pd : 0 < den) (le :
       let J' = (den' * s + num') * den in
       let more_of : J + (J' - J) ≡ J' = omega arith in
       rooted a b b m (den' * k) (den' * s + num') den pd
-      (subst₂ (λ (x y : ℕ). a ^ x * b ^ y ≤ b ^ x * m ^ y) same-steps more_of (more a b m (den * k * den') J (J' - J) bm (raised a b b m (den * k) (den * s + num) den' h)))
+      (subst₂ (λ (x y : ℕ). a ^ x * b ^ y ≤ b ^ x * m ^ y) same_steps more_of (more a b m (den * k * den') J (J' - J) bm (raised a b b m (den * k) (den * s + num) den' h)))
 
   above : 0 < m → RatioAtLeast a b m (den * k) (den * s - num) → RatioAtLeast a b m (den' * k) (den' * s - num')
   above pm h =
@@ -53,7 +53,7 @@ module _ (a b m k s num den num' den' : ℕ) (bm : b ≤ m) (pd : 0 < den) (le :
       let fewer : J' ≤ J = rw (sub-mul (den' * s) num' den, sub-mul (den * s) num den') (omega arith) in
       let rest : J ≡ J' + (J - J') = omega arith in
       rooted b m a b (den' * k) (den' * s - num') den pd
-      (subst (λ (x : ℕ). b ^ x * m ^ J' ≤ a ^ x * b ^ J') same-steps
+      (subst (λ (x : ℕ). b ^ x * m ^ J' ≤ a ^ x * b ^ J') same_steps
       (less a b m (den * k * den') J' (J - J') bm pm (subst (λ (y : ℕ). RatioAtLeast a b m (den * k * den') y) rest (raised b m a b (den * k) (den * s - num) den' h))))
 
 -- so a promise with one constant gives that with a larger one
@@ -63,8 +63,8 @@ weaker {num} {den} {num'} {den'} {b} {m} {t} {c} {a} {i} pd le h w =
     let bm : P b ≤ P m = omega arith in
     let pm : 0 < P m = lt_of_lt_of_le (lt_of_lt_of_le (pow_pos 125) h.quietest) bm in
     record {
-      not-below = below (P a) (P b) (P m) (c - t) (i - t) num den num' den' bm pd le w.not-below;
-      not-above = above (P a) (P b) (P m) (c - t) (i - t) num den num' den' bm pd le pm w.not-above;
+      not_below = below (P a) (P b) (P m) (c - t) (i - t) num den num' den' bm pd le w.not_below;
+      not_above = above (P a) (P b) (P m) (c - t) (i - t) num den num' den' bm pd le pm w.not_above;
     }
 
 -- the constant of every top is at most that of 1,023

@@ -14,14 +14,14 @@ use Rattle.loudness.specs.Words.{threshold_of, comfort_of, BentPasses, Past, ris
 use Rattle.loudness.specs.Fitted.{fitted_knee, Changed}
 use Rattle.loudness.proofs.Growth.{step_quiet}
 use Rattle.loudness.proofs.Promise.{segment}
-use Rattle.loudness.proofs.Bent.{knee-below, knee-above}
+use Rattle.loudness.proofs.Bent.{knee_below, knee_above}
 use Rattle.loudness.proofs.Check.{rest, changed_fails}
-use Rattle.loudness.proofs.Fitting.{bounded, threshold_in_lem, comfort_in_lem, segment_passes, segment-words-few, segment-length, past_level, not_wrapped, at_top, same_step}
+use Rattle.loudness.proofs.Fitting.{bounded, threshold_in_lem, comfort_in_lem, segment_passes, segment_words_few, segment_length, past_level, not_wrapped, at_top, same_step}
 
 -- ---- the words of two segments, written over twelve
 module _ (w x : List ℕ) (six : length x ≡ 6) where
-  pub second-length : length w ≡ 12 → length (take (length (x ++ drop 6 w) - 6) (drop 6 (x ++ drop 6 w))) ≡ 6
-  second-length h = ap length (rest (x ++ drop 6 w) ∙ drop_at x (drop 6 w) 6 six) ∙ length-drop 6 w ∙ ap (λ (n : ℕ). n - 6) h
+  pub second_length : length w ≡ 12 → length (take (length (x ++ drop 6 w) - 6) (drop 6 (x ++ drop 6 w))) ≡ 6
+  second_length h = ap length (rest (x ++ drop 6 w) ∙ drop_at x (drop 6 w) 6 six) ∙ length-drop 6 w ∙ ap (λ (n : ℕ). n - 6) h
 
   pub both_halves : (y : List ℕ) → put_mid 6 (length (x ++ drop 6 w) - 6) (x ++ drop 6 w) y ≡ x ++ y
   both_halves y =
@@ -31,13 +31,13 @@ module _ (w x : List ℕ) (six : length x ≡ 6) where
 
 -- ---- any words
 module _ (w : List ℕ) (p : ℕ) where
-  pub bent-below : ¬ Past w p → bent_in w p ≡ step_in (take 6 w) p
+  pub bent_below : ¬ Past w p → bent_in w p ≡ step_in (take 6 w) p
   unfolding bent_in
-  bent-below h = elim (le-or-lt 9223372036854775808 (rise_in (drop 6 w) p)) [ inl l ↦ rw (le-leb 9223372036854775808 (rise_in (drop 6 w) p) l) | inr l ↦ absurd (h l) ]
+  bent_below h = elim (le-or-lt 9223372036854775808 (rise_in (drop 6 w) p)) [ inl l ↦ rw (le-leb 9223372036854775808 (rise_in (drop 6 w) p) l) | inr l ↦ absurd (h l) ]
 
-  pub bent-above : Past w p → bent_in w p ≡ step_in (drop 6 w) p
+  pub bent_above : Past w p → bent_in w p ≡ step_in (drop 6 w) p
   unfolding bent_in
-  bent-above h = rw (lt-leb 9223372036854775808 (rise_in (drop 6 w) p) h)
+  bent_above h = rw (lt-leb 9223372036854775808 (rise_in (drop 6 w) p) h)
 
   -- between the threshold of the lower segment and the comfort of the upper one
   pub bent_bounded : BentPasses w → (threshold_of (get_or w 0 0) ≤ bent_in w p) × (bent_in w p ≤ comfort_of (get_or w 6 0))
@@ -48,8 +48,8 @@ module _ (w : List ℕ) (p : ℕ) where
       let low = get_or-take 6 w 0 0 (omega arith) in
       let high = get_or-drop 6 w 0 0 in
       elim (le-or-lt 9223372036854775808 (rise_in (drop 6 w) p)) [
-        | inl l ↦ rw (bent-below (λ q. not-le_of_lt q l)) (omega arith, omega arith)
-        | inr l ↦ rw (bent-above l) (omega arith, omega arith)
+        | inl l ↦ rw (bent_below (λ q. not-le_of_lt q l)) (omega arith, omega arith)
+        | inr l ↦ rw (bent_above l) (omega arith, omega arith)
       ]
 
 -- ---- the words of a bent channel
@@ -64,10 +64,10 @@ module _ (top : ℕ) (b k m : Float) (t s c : ℕ) (ch : BentChannel top b k m t
   upper = segment ch.upper
 
   low_part : take 6 w ≡ segment_words b k t s
-  low_part = take_at (segment_words b k t s) (segment_words k m s c) 6 (segment-length b k t s)
+  low_part = take_at (segment_words b k t s) (segment_words k m s c) 6 (segment_length b k t s)
 
   high_part : drop 6 w ≡ segment_words k m s c
-  high_part = drop_at (segment_words b k t s) (segment_words k m s c) 6 (segment-length b k t s)
+  high_part = drop_at (segment_words b k t s) (segment_words k m s c) 6 (segment_length b k t s)
 
   -- they pass
   pub knee_passes : BentPasses w
@@ -99,14 +99,14 @@ module _ (top : ℕ) (b k m : Float) (t s c : ℕ) (ch : BentChannel top b k m t
         let tie = not_wrapped k m s c upper a e (rw high_part at h) in
         step_quiet k m s c a l ∙ sym (at_top b k t s lower a e tie) ∙ same_step b k t s lower a e
 
-    pub same-bent : bent_in w p ≡ knee_of b k m t s c a
-    same-bent = go (le-or-lt 9223372036854775808 (rise_in (drop 6 w) p)) (le-or-lt (P a) (P k))
+    pub same_bent : bent_in w p ≡ knee_of b k m t s c a
+    same_bent = go (le-or-lt 9223372036854775808 (rise_in (drop 6 w) p)) (le-or-lt (P a) (P k))
       where
         go : (9223372036854775808 ≤ rise_in (drop 6 w) p) ⊎ Past w p → (P a ≤ P k) ⊎ (P k < P a) → bent_in w p ≡ knee_of b k m t s c a
-        go (inl h) (inl l) = bent-below w p (λ q. not-le_of_lt q h) ∙ by_lower ∙ sym (knee-below b k m t s c a l)
+        go (inl h) (inl l) = bent_below w p (λ q. not-le_of_lt q h) ∙ by_lower ∙ sym (knee_below b k m t s c a l)
         go (inl h) (inr l) = absurd (not-le_of_lt (rw (← high_part) at (past_level k m s c upper a e (le_of_lt l))) h)
-        go (inr h) (inl l) = bent-above w p h ∙ by_upper ∙ at_the_knee h l ∙ sym (knee-below b k m t s c a l)
-        go (inr h) (inr l) = bent-above w p h ∙ by_upper ∙ sym (knee-above b k m t s c a l)
+        go (inr h) (inl l) = bent_above w p h ∙ by_upper ∙ at_the_knee h l ∙ sym (knee_below b k m t s c a l)
+        go (inr h) (inr l) = bent_above w p h ∙ by_upper ∙ sym (knee_above b k m t s c a l)
 
   -- with one word changed they do not pass
   module _ (v : List ℕ) (h : Changed w v) where
@@ -114,7 +114,7 @@ module _ (top : ℕ) (b k m : Float) (t s c : ℕ) (ch : BentChannel top b k m t
     in_lower l = record {
       place = h.place;
       other = h.other;
-      inside = rw (segment-length b k t s) l;
+      inside = rw (segment_length b k t s) l;
       word = h.word;
       differs = λ e. h.differs (e ∙ ap (λ (u : List ℕ). get_or u h.place 0) (sym low_part) ∙ get_or-take 6 w h.place 0 l);
       changed = ap (take 6) h.changed ∙ take-set-lt 6 w h.place h.other l ∙ ap (λ (u : List ℕ). set u h.place h.other) low_part;
@@ -124,7 +124,7 @@ module _ (top : ℕ) (b k m : Float) (t s c : ℕ) (ch : BentChannel top b k m t
     in_upper i e = record {
       place = i;
       other = h.other;
-      inside = rw (segment-length k m s c) (few (rw (length-append (segment_words b k t s) (segment_words k m s c), segment-length b k t s, segment-length k m s c) at h.inside));
+      inside = rw (segment_length k m s c) (few (rw (length-append (segment_words b k t s) (segment_words k m s c), segment_length b k t s, segment_length k m s c) at h.inside));
       word = h.word;
       differs = λ d. h.differs (d ∙ ap (λ (u : List ℕ). get_or u i 0) (sym high_part) ∙ get_or-drop 6 w i 0 ∙ ap (λ (j : ℕ). get_or w j 0) (sym e));
       changed = ap (drop 6) (h.changed ∙ ap (λ (j : ℕ). set w j h.other) e) ∙ drop-set-add 6 w i h.other ∙ ap (λ (u : List ℕ). set u i h.other) high_part;
@@ -133,9 +133,9 @@ module _ (top : ℕ) (b k m : Float) (t s c : ℕ) (ch : BentChannel top b k m t
         few : h.place < 6 + 6 → i < 6
         few l = omega arith
 
-    pub changed-knee : BentPasses v → ⊥
-    changed-knee p =
+    pub changed_knee : BentPasses v → ⊥
+    changed_knee p =
         elim (le-or-lt 6 h.place) [
-          | inl l ↦ changed_fails (segment_words k m s c) (drop 6 v) (segment-words-few k m s c upper) (segment_passes k m s c upper) (in_upper (h.place - 6) (omega arith)) p.upper
-          | inr l ↦ changed_fails (segment_words b k t s) (take 6 v) (segment-words-few b k t s lower) (segment_passes b k t s lower) (in_lower l) p.lower
+          | inl l ↦ changed_fails (segment_words k m s c) (drop 6 v) (segment_words_few k m s c upper) (segment_passes k m s c upper) (in_upper (h.place - 6) (omega arith)) p.upper
+          | inr l ↦ changed_fails (segment_words b k t s) (take 6 v) (segment_words_few b k t s lower) (segment_passes b k t s lower) (in_lower l) p.lower
         ]

@@ -53,18 +53,18 @@ pub rest : (w : List ℕ) → take (length w - 6) (drop 6 w) ≡ drop 6 w
 rest w = take_all (length w - 6) (drop 6 w) (le_of_eq (length-drop 6 w))
 
 -- a changed word changes the sum by as much
-changed-total : (w : List ℕ) (j v : ℕ) → j < length w → total (set w j v) + get_or w j 0 ≡ total w + v
+changed_total : (w : List ℕ) (j v : ℕ) → j < length w → total (set w j v) + get_or w j 0 ≡ total w + v
 unfolding total
-changed-total [] j v h = absurd (omega arith)
-changed-total (x ∷ w) zero v h = omega arith
-changed-total (x ∷ w) (suc j) v h = let e = changed-total w j v (omega arith) in omega arith
+changed_total [] j v h = absurd (omega arith)
+changed_total (x ∷ w) zero v h = omega arith
+changed_total (x ∷ w) (suc j) v h = let e = changed_total w j v (omega arith) in omega arith
 
 -- so that words with one changed do not pass
 pub changed_fails : (words w : List ℕ) → ((j : ℕ) → get_or words j 0 < 4294967296) → Passes words → Changed words w → Passes w → ⊥
 changed_fails words w small p ch q = ch.differs (same (total words) (total w) (get_or words ch.place 0) ch.other p q sums (small ch.place) ch.word)
   where
     sums : total w + get_or words ch.place 0 ≡ total words + ch.other
-    sums = rw ch.changed (changed-total words ch.place ch.other ch.inside)
+    sums = rw ch.changed (changed_total words ch.place ch.other ch.inside)
 
     same : (s t x y : ℕ) → s % 4294967296 ≡ check_sum → t % 4294967296 ≡ check_sum → t + x ≡ s + y → x < 4294967296 → y < 2 ^ 32 → y ≡ x
     same s t x y a b e l m = omega arith

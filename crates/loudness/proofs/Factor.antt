@@ -23,9 +23,9 @@ factor_close k h f w =
     through q a b = record { full = f; word = w; least = omega arith; most = omega arith }
 
 -- and has 44 digits
-pub factor-few : (k h : ℕ) → k ≤ 1023 → 2147483648 ≤ h → factor_of k h < 17592186044416
+pub factor_few : (k h : ℕ) → k ≤ 1023 → 2147483648 ≤ h → factor_of k h < 17592186044416
 unfolding factor_of
-factor-few k h few f = through (k * 36893488147419103232 / h) (div-mul-le_self (k * 36893488147419103232) h)
+factor_few k h few f = through (k * 36893488147419103232 / h) (div-mul-le_self (k * 36893488147419103232) h)
   where
     through : (q : ℕ) → q * h ≤ k * 36893488147419103232 → q + 1 < 17592186044416
     through q a = let b = mul-le-mul_left q f in omega arith
@@ -35,14 +35,14 @@ module _ (k h F N : ℕ) (cl : Close k h F) where
   abbrev X : ℕ
   X = N * F / 18446744073709551616
 
-  product-least : N * k * 36893488147419103232 ≤ N * F * h
-  product-least = turned (mul-le-mul_left N cl.least)
+  product_least : N * k * 36893488147419103232 ≤ N * F * h
+  product_least = turned (mul-le-mul_left N cl.least)
     where
       turned : N * (k * 36893488147419103232) ≤ N * (F * h) → N * k * 36893488147419103232 ≤ N * F * h
       turned l = omega arith
 
-  product-most : N * F * h ≤ N * k * 36893488147419103232 + N * 4294967296
-  product-most = turned (mul-le-mul_left N cl.most)
+  product_most : N * F * h ≤ N * k * 36893488147419103232 + N * 4294967296
+  product_most = turned (mul-le-mul_left N cl.most)
     where
       turned : N * (F * h) ≤ N * (k * 36893488147419103232 + 4294967296) → N * F * h ≤ N * k * 36893488147419103232 + N * 4294967296
       turned l = omega arith
@@ -56,8 +56,8 @@ module _ (k h F N : ℕ) (cl : Close k h F) where
       let l = div-mul-le_self p h in
       let u = lt-div-mul-add {a = p} {b = h} (omega arith) in
       let few : N * 4294967296 < 18446744073709551616 = let w = cl.word in omega arith in
-      let low : p / h * 2 ≤ X + 1 = elim (le-or-lt (p / h * 2) (X + 1)) [ inl g ↦ g | inr g ↦ absurd (too_small (p / h) X (N * F) 18446744073709551616 l (omega arith) g product-least) ] in
-      let high : X ≤ p / h * 2 = elim (le-or-lt X (p / h * 2)) [ inl g ↦ g | inr g ↦ absurd (too_large (p / h) X (N * F) 18446744073709551616 u (omega arith) g product-most few) ] in
+      let low : p / h * 2 ≤ X + 1 = elim (le-or-lt (p / h * 2) (X + 1)) [ inl g ↦ g | inr g ↦ absurd (too_small (p / h) X (N * F) 18446744073709551616 l (omega arith) g product_least) ] in
+      let high : X ≤ p / h * 2 = elim (le-or-lt X (p / h * 2)) [ inl g ↦ g | inr g ↦ absurd (too_large (p / h) X (N * F) 18446744073709551616 u (omega arith) g product_most few) ] in
       halves (p / h) X low high
     where
       -- with any number E for 2 ^ 64

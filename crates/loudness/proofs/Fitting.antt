@@ -5,16 +5,16 @@ use lib.Ieee.{Float, binary32, to_bits}
 use Rattle.units.specs.Units.{P}
 use Rattle.units.proofs.Naturals.{le-or-lt}
 use Rattle.logs.specs.Value.{fixed_bits, fixed_of}
-use Rattle.logs.proofs.Reduction.{octave, bits-few}
+use Rattle.logs.proofs.Reduction.{octave, bits_few}
 use Rattle.loudness.specs.Map.{Envelope}
 use Rattle.loudness.specs.Value.{rise_of, places_of, word_of, nearest_step, steps_of, step_of}
 use Rattle.loudness.specs.Segment.{Segment, size_bits}
 use Rattle.loudness.specs.Words.{threshold_of, range_of, comfort_of, Passes, rise_to, rise_in, upper_of, scaled, steps_in, step_in, span_of, factor_of, steps_word, negated, five_words, segment_words}
-use Rattle.loudness.proofs.Known.{Sound, low-sound, high-sound, accepted, rises}
-use Rattle.loudness.proofs.Words.{places, full, word-most, floors}
-use Rattle.loudness.proofs.Growth.{step_quiet, step_loud, step_between, inside, between-sound, few, b≤m, span_long, span_few, rise_most}
+use Rattle.loudness.proofs.Known.{Sound, low_sound, high_sound, accepted, rises}
+use Rattle.loudness.proofs.Words.{places, full, word_most, floors}
+use Rattle.loudness.proofs.Growth.{step_quiet, step_loud, step_between, inside, between_sound, few, b≤m, span_long, span_few, rise_most}
 use Rattle.loudness.proofs.Sizes.{too_quiet, quieter, up_to_one, own_bits}
-use Rattle.loudness.proofs.Factor.{Close, factor_close, factor-few, nearest, all_steps}
+use Rattle.loudness.proofs.Factor.{Close, factor_close, factor_few, nearest, all_steps}
 use Rattle.loudness.proofs.Check.{five_length, five_check, five_few}
 
 -- ---- any words: the cases of the steps
@@ -45,8 +45,8 @@ module _ (w : List ℕ) (n : ℕ) where
   in_between h l = rw (lt-leb 4294967296 y h, lt-leb k i l)
 
   -- never more than all
-  pub steps-most : steps_in w n ≤ k
-  steps-most = go (le-or-lt 4294967296 y) (le-or-lt 9223372036854775808 n) (le-or-lt k i)
+  pub steps_most : steps_in w n ≤ k
+  steps_most = go (le-or-lt 4294967296 y) (le-or-lt 9223372036854775808 n) (le-or-lt k i)
     where
       go : (4294967296 ≤ y) ⊎ (y < 4294967296) → (9223372036854775808 ≤ n) ⊎ (n < 9223372036854775808) → (k ≤ i) ⊎ (i < k) → steps_in w n ≤ k
       go (inl h) (inl l) r = rw (in_none h l) (omega arith)
@@ -72,12 +72,12 @@ nothing w =
 -- between threshold and comfort
 pub bounded : (w : List ℕ) (p : ℕ) → (threshold_of (get_or w 0 0) ≤ step_in w p) × (step_in w p ≤ comfort_of (get_or w 0 0))
 unfolding step_in
-bounded w p = let m = steps-most w (rise_in w p) in (omega arith, omega arith)
+bounded w p = let m = steps_most w (rise_in w p) in (omega arith, omega arith)
 
 -- ---- the words of a segment
-pub segment-length : (b m : Float) (t c : ℕ) → length (segment_words b m t c) ≡ 6
+pub segment_length : (b m : Float) (t c : ℕ) → length (segment_words b m t c) ≡ 6
 unfolding segment_words
-segment-length b m t c = five_length _ _ _ _ _
+segment_length b m t c = five_length _ _ _ _ _
 
 module _ (b m : Float) (t c : ℕ) (sg : Segment b m t c) where
   abbrev w : List ℕ
@@ -104,7 +104,7 @@ module _ (b m : Float) (t c : ℕ) (sg : Segment b m t c) where
   close = let (l, u) = span_word in factor_close (c - t) h l u
 
   pub digits : f < 17592186044416
-  digits = factor-few (c - t) h (few b m t c sg) span_word.0
+  digits = factor_few (c - t) h (few b m t c sg) span_word.0
 
   -- what stands in them
   parts : (steps_word t c f / 4194304 ≡ t) × (steps_word t c f / 4096 % 1024 ≡ c - t) × (steps_word t c f % 4096 ≡ f / 4294967296) × (steps_word t c f < 4294967296)
@@ -135,10 +135,10 @@ module _ (b m : Float) (t c : ℕ) (sg : Segment b m t c) where
   power_in = refl
 
   low : Sound b
-  low = low-sound sg.levels
+  low = low_sound sg.levels
 
   high : Sound m
-  high = high-sound sg.levels
+  high = high_sound sg.levels
 
   -- they pass
   pub segment_passes : Passes w
@@ -146,9 +146,9 @@ module _ (b m : Float) (t c : ℕ) (sg : Segment b m t c) where
   segment_passes = five_check _ _ _ _ _
 
   -- each is a word of 32 digits
-  pub segment-words-few : (j : ℕ) → get_or w j 0 < 4294967296
+  pub segment_words_few : (j : ℕ) → get_or w j 0 < 4294967296
   unfolding segment_words negated
-  segment-words-few = five_few _ _ _ _ _ parts.3 (omega arith) upper_half (lt_of_le_of_lt (pow_mono shifts.1) (lit< tt)) (omega arith)
+  segment_words_few = five_few _ _ _ _ _ parts.3 (omega arith) upper_half (lt_of_le_of_lt (pow_mono shifts.1) (lit< tt)) (omega arith)
     where
       upper_half : negated b / 4294967296 < 4294967296
       upper_half = omega arith
@@ -158,7 +158,7 @@ module _ (b m : Float) (t c : ℕ) (sg : Segment b m t c) where
   short p l = let o = (octave p).1 in omega arith
 
   b_bits : to_bits binary32 b < 2147483648
-  b_bits = omega (arith, bits-few b (accepted low))
+  b_bits = omega (arith, bits_few b (accepted low))
 
   module _ (p : ℕ) (lp : p < 2147483648) where
     rise_above : fixed_of b ≤ fixed_bits p → rise_in w p ≡ fixed_bits p - fixed_of b
@@ -186,8 +186,8 @@ module _ (b m : Float) (t c : ℕ) (sg : Segment b m t c) where
     abbrev p : ℕ
     p = size_bits a
 
-    p-few : p < 2147483648
-    p-few = omega (arith, up_to_one e)
+    p_few : p < 2147483648
+    p_few = omega (arith, up_to_one e)
 
     level : Sound a → fixed_bits p ≡ fixed_of a
     unfolding fixed_of
@@ -214,16 +214,16 @@ module _ (b m : Float) (t c : ℕ) (sg : Segment b m t c) where
         through : (x : ℕ) → 9223372036854775808 * 2 ^ 5 ≤ x → 4294967296 ≤ x / 4294967296
         through x h = omega arith
 
-    quiet-steps : P a ≤ P b → steps_in w (rise_in w p) ≡ 0
-    quiet-steps l = elim (eq-or-lt_of_le (no_higher l)) [
-      | inl q ↦ ap (steps_in w) (rise_above p p-few (le_of_eq (sym q)) ∙ omega arith) ∙ nothing w
-      | inr q ↦ let r = rise_below p p-few q b_short in in_none w (rise_in w p) (wrapped_word (rise_in w p) r) r
+    quiet_steps : P a ≤ P b → steps_in w (rise_in w p) ≡ 0
+    quiet_steps l = elim (eq-or-lt_of_le (no_higher l)) [
+      | inl q ↦ ap (steps_in w) (rise_above p p_few (le_of_eq (sym q)) ∙ omega arith) ∙ nothing w
+      | inr q ↦ let r = rise_below p p_few q b_short in in_none w (rise_in w p) (wrapped_word (rise_in w p) r) r
     ]
 
     -- between b and m, and past m: the rise of the map
     rise_of_lem : Sound a → P b ≤ P a → rise_in w p ≡ rise_of b a
     unfolding rise_of
-    rise_of_lem s l = rise_above p p-few (le_trans (rises low s l) (le_of_eq (sym (level s)))) ∙ ap (λ (x : ℕ). x - fixed_of b) (level s)
+    rise_of_lem s l = rise_above p p_few (le_trans (rises low s l) (le_of_eq (sym (level s)))) ∙ ap (λ (x : ℕ). x - fixed_of b) (level s)
 
     word_of_lem : (n : ℕ) → upper_of n (get_or w 3 0) ≡ word_of (places_of d) n
     unfolding upper_of word_of
@@ -238,23 +238,23 @@ module _ (b m : Float) (t c : ℕ) (sg : Segment b m t c) where
     unfolding rise_of
     past_level l =
         let s : Sound a = record { number = e.number; quietest = le_trans sg.levels.quietest l; loudest = e.at_most_one } in
-        let u = short p p-few in
+        let u = short p p_few in
         let v = level s in
         let r = rise_of_lem s l in
         omega arith
 
     -- and where it has not, the logarithm is no lower
     pub not_wrapped : rise_in w p < 9223372036854775808 → fixed_of b ≤ fixed_bits p
-    not_wrapped l = elim (le-or-lt (fixed_of b) (fixed_bits p)) [ inl h ↦ h | inr h ↦ absurd (not-le_of_lt l (rise_below p p-few h b_short)) ]
+    not_wrapped l = elim (le-or-lt (fixed_of b) (fixed_bits p)) [ inl h ↦ h | inr h ↦ absurd (not-le_of_lt l (rise_below p p_few h b_short)) ]
 
     -- all steps where the logarithm is no lower than that of m
-    top-steps : fixed_of m ≤ fixed_bits p → steps_in w (rise_in w p) ≡ c - t
+    top_steps : fixed_of m ≤ fixed_bits p → steps_in w (rise_in w p) ≡ c - t
     unfolding rise_of span_of word_of
-    top-steps l =
+    top_steps l =
         let n = rise_in w p in
         let b_lower = rises low high (b≤m b m t c sg) in
-        let r = rise_above p p-few (le_trans b_lower l) in
-        let u = short p p-few in
+        let r = rise_above p p_few (le_trans b_lower l) in
+        let u = short p p_few in
         elim (le-or-lt 4294967296 (upper_of n (get_or w 3 0))) [
           | inl g ↦ in_all w n g (omega arith) ∙ range_in
           | inr g ↦ in_most w n g (le_trans (le_of_eq range_in) (le_trans (all_steps (c - t) h f (word_of (places_of d) n) close (floors (mul-le-mul_right (2 ^ places_of d) (omega arith)) (lit< tt))) (le_of_eq (sym (scaled_of n))))) ∙ range_in
@@ -263,31 +263,31 @@ module _ (b m : Float) (t c : ℕ) (sg : Segment b m t c) where
     -- so that the step is comfort
     pub at_top : fixed_of m ≤ fixed_bits p → step_in w p ≡ c
     unfolding step_in
-    at_top l = let o = sg.order in ap₂ ◌+◌ threshold_in_lem (top-steps l) ∙ omega arith
+    at_top l = let o = sg.order in ap₂ ◌+◌ threshold_in_lem (top_steps l) ∙ omega arith
 
-    loud-steps : P m ≤ P a → steps_in w (rise_in w p) ≡ c - t
-    loud-steps l =
+    loud_steps : P m ≤ P a → steps_in w (rise_in w p) ≡ c - t
+    loud_steps l =
         let s : Sound a = record { number = e.number; quietest = le_trans sg.levels.quietest (le_trans (b≤m b m t c sg) l); loudest = e.at_most_one } in
-        top-steps (le_trans (rises high s l) (le_of_eq (sym (level s))))
+        top_steps (le_trans (rises high s l) (le_of_eq (sym (level s))))
 
-    between-steps : P b < P a → P a < P m → steps_in w (rise_in w p) ≡ steps_of (c - t) (rise_of b a) d
+    between_steps : P b < P a → P a < P m → steps_in w (rise_in w p) ≡ steps_of (c - t) (rise_of b a) d
     unfolding steps_of span_of
-    between-steps l r =
-        let s = between-sound b m t c sg a e.number (le_of_lt l) (le_of_lt r) in
+    between_steps l r =
+        let s = between_sound b m t c sg a e.number (le_of_lt l) (le_of_lt r) in
         let n = rise_in w p in
         let rise = rise_of_lem s (le_of_lt l) in
         let N = word_of (places_of d) (rise_of b a) in
-        let N≤h : N ≤ h = word-most d (span_long b m t c sg) (span_few b m t c sg) (rise_of b a) (rise_most b m t c sg a s (le_of_lt r)) in
+        let N≤h : N ≤ h = word_most d (span_long b m t c sg) (span_few b m t c sg) (rise_of b a) (rise_most b m t c sg a s (le_of_lt r)) in
         let word : upper_of n (get_or w 3 0) < 4294967296 = lt_of_le_of_lt (le_of_eq (word_of_lem n ∙ ap (word_of (places_of d)) rise)) (lt_of_le_of_lt N≤h span_word.1) in
         let same : i w n ≡ nearest_step (c - t) N h = scaled_of n ∙ ap (λ (x : ℕ). (word_of (places_of d) x * f / 18446744073709551616 + 1) / 2) rise ∙ nearest (c - t) h f N close N≤h in
-        let most : nearest_step (c - t) N h ≤ c - t = few-steps l r in
+        let most : nearest_step (c - t) N h ≤ c - t = few_steps l r in
         elim (le-or-lt (k w n) (i w n)) [
           | inl g ↦ in_most w n word g ∙ omega (arith, range_in)
           | inr g ↦ in_between w n word g ∙ same
         ]
       where
-        few-steps : P b < P a → P a < P m → nearest_step (c - t) (word_of (places_of d) (rise_of b a)) h ≤ c - t
-        few-steps l r = let q = step_between b m t c a l r in let u = (inside b m t c sg a e.number).1 in omega arith
+        few_steps : P b < P a → P a < P m → nearest_step (c - t) (word_of (places_of d) (rise_of b a)) h ≤ c - t
+        few_steps l r = let q = step_between b m t c a l r in let u = (inside b m t c sg a e.number).1 in omega arith
 
     -- the step is the map's
     pub same_step : step_in w p ≡ step_of b m t c a
@@ -295,6 +295,6 @@ module _ (b m : Float) (t c : ℕ) (sg : Segment b m t c) where
     same_step = go (le-or-lt (P a) (P b)) (le-or-lt (P m) (P a))
       where
         go : (P a ≤ P b) ⊎ (P b < P a) → (P m ≤ P a) ⊎ (P a < P m) → threshold_of (get_or w 0 0) + steps_in w (rise_in w p) ≡ step_of b m t c a
-        go (inl l) r = ap₂ ◌+◌ threshold_in_lem (quiet-steps l) ∙ omega (arith, step_quiet b m t c a l)
-        go (inr l) (inl r) = ap₂ ◌+◌ threshold_in_lem (loud-steps r) ∙ omega (arith, step_loud b m t c a l r, sg.order)
-        go (inr l) (inr r) = ap₂ ◌+◌ threshold_in_lem (between-steps l r) ∙ sym (step_between b m t c a l r)
+        go (inl l) r = ap₂ ◌+◌ threshold_in_lem (quiet_steps l) ∙ omega (arith, step_quiet b m t c a l)
+        go (inr l) (inl r) = ap₂ ◌+◌ threshold_in_lem (loud_steps r) ∙ omega (arith, step_loud b m t c a l r, sg.order)
+        go (inr l) (inr r) = ap₂ ◌+◌ threshold_in_lem (between_steps l r) ∙ sym (step_between b m t c a l r)

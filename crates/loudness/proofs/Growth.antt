@@ -8,9 +8,9 @@ use Rattle.logs.specs.Fixed.{fixed_of}
 use Rattle.loudness.specs.Map.{NearMap}
 use Rattle.loudness.specs.Value.{rise_of, steps_of, step_of}
 use Rattle.loudness.specs.Segment.{Segment}
-use Rattle.loudness.proofs.Steps.{Rounded, Allows, not-below, not-above}
-use Rattle.loudness.proofs.Words.{steps-rounded, steps_mono}
-use Rattle.loudness.proofs.Known.{parts, shift, width, Sound, low-sound, high-sound, encloses, rises, encloses_sum, rise_few, rise_octave}
+use Rattle.loudness.proofs.Steps.{Rounded, Allows, not_below, not_above}
+use Rattle.loudness.proofs.Words.{steps_rounded, steps_mono}
+use Rattle.loudness.proofs.Known.{parts, shift, width, Sound, low_sound, high_sound, encloses, rises, encloses_sum, rise_few, rise_octave}
 
 -- the three cases of the map
 module _ (b m : Float) (t c : ℕ) (a : Float) where
@@ -35,17 +35,17 @@ module _ (b m : Float) (t c : ℕ) (sg : Segment b m t c) where
 
   -- the levels of the segment
   low : Sound b
-  low = low-sound sg.levels
+  low = low_sound sg.levels
 
   high : Sound m
-  high = high-sound sg.levels
+  high = high_sound sg.levels
 
   pub b≤m : P b ≤ P m
   b≤m = let o = sg.levels.octave in omega arith
 
   -- between b and m a float has a level
-  pub between-sound : (a : Float) → Number a → P b ≤ P a → P a ≤ P m → Sound a
-  between-sound a h l r = record { number = h; quietest = le_trans sg.levels.quietest l; loudest = le_trans r sg.levels.loudest }
+  pub between_sound : (a : Float) → Number a → P b ≤ P a → P a ≤ P m → Sound a
+  between_sound a h l r = record { number = h; quietest = le_trans sg.levels.quietest l; loudest = le_trans r sg.levels.loudest }
 
   -- the span of the segment is an octave or more, but for the errors, and has 59 digits
   pub span_octave : parts ≤ d + width
@@ -66,7 +66,7 @@ module _ (b m : Float) (t c : ℕ) (sg : Segment b m t c) where
   rise_most a s r = let l = rises s high r in omega arith
 
   near : (a : Float) → Sound a → P a ≤ P m → Rounded k (rise_of b a) d 1073741824 (steps_of k (rise_of b a) d)
-  near a s r = steps-rounded d span_long span_few (rise_of b a) (rise_most a s r) k
+  near a s r = steps_rounded d span_long span_few (rise_of b a) (rise_most a s r) k
 
   -- ---- between threshold and comfort
   pub inside : (a : Float) → Number a → (t ≤ step_of b m t c a) × (step_of b m t c a ≤ c)
@@ -79,7 +79,7 @@ module _ (b m : Float) (t c : ℕ) (sg : Segment b m t c) where
       go (inl l) r = subst Inside (sym (step_quiet b m t c a l)) (le_refl t, sg.order)
       go (inr l) (inl r) = subst Inside (sym (step_loud b m t c a l r)) (sg.order, le_refl c)
       go (inr l) (inr r) =
-          let i = (near a (between-sound a h (le_of_lt l) (le_of_lt r)) (le_of_lt r)).most in
+          let i = (near a (between_sound a h (le_of_lt l) (le_of_lt r)) (le_of_lt r)).most in
           let o = sg.order in
           subst Inside (sym (step_between b m t c a l r)) (omega arith, omega arith)
 
@@ -95,15 +95,15 @@ module _ (b m : Float) (t c : ℕ) (sg : Segment b m t c) where
       go r (inl l) = le_trans (le_of_eq (step_quiet b m t c a' l)) (inside a h).0
       go (inl r) (inr l) = le_trans (inside a' h').1 (le_of_eq (sym (step_loud b m t c a (lt_of_lt_of_le l less) r)))
       go (inr r) (inr l) =
-          let s = between-sound a h (le_trans (le_of_lt l) less) (le_of_lt r) in
-          let s' = between-sound a' h' (le_of_lt l) (le_trans less (le_of_lt r)) in
+          let s = between_sound a h (le_trans (le_of_lt l) less) (le_of_lt r) in
+          let s' = between_sound a' h' (le_of_lt l) (le_trans less (le_of_lt r)) in
           let up = steps_rise a a' s s' less in
           rw (step_between b m t c a' l (lt_of_le_of_lt less r), step_between b m t c a (lt_of_lt_of_le l less) r) (omega arith)
 
   -- ---- within the constant of the exact map
   pub within : (num den : ℕ) → Allows num den width k d 1073741824 → (a : Float) → Number a → P b < P a → P a < P m → NearMap num den b m t c a (step_of b m t c a)
   within num den al a h l r =
-      let s = between-sound a h (le_of_lt l) (le_of_lt r) in
+      let s = between_sound a h (le_of_lt l) (le_of_lt r) in
       let n = rise_of b a in
       let i = steps_of k n d in
       let steps : step_of b m t c a - t ≡ i = let e = step_between b m t c a l r in omega arith in
@@ -111,6 +111,6 @@ module _ (b m : Float) (t c : ℕ) (sg : Segment b m t c) where
       let A = encloses_sum low s (le_of_lt l) in
       let M = encloses_sum low high b≤m in
       record {
-        not-below = rw steps (not-below (P a) (P b) (P m) (2 ^ 22) (fixed_of b) n d width shift parts k 1073741824 i num den ro al A (encloses low) M);
-        not-above = rw steps (not-above (P a) (P b) (P m) (2 ^ 22) (fixed_of b) n d width shift parts k 1073741824 i num den ro al A (encloses low) M (le_of_lt l));
+        not_below = rw steps (not_below (P a) (P b) (P m) (2 ^ 22) (fixed_of b) n d width shift parts k 1073741824 i num den ro al A (encloses low) M);
+        not_above = rw steps (not_above (P a) (P b) (P m) (2 ^ 22) (fixed_of b) n d width shift parts k 1073741824 i num den ro al A (encloses low) M (le_of_lt l));
       }

@@ -27,11 +27,11 @@ pub record Sound (x : Float) : Type 0 where
   pub loudest : P x ≤ 2 ^ 149
 
 -- both levels of a channel are sounds
-pub low-sound : {b m : Float} → Levels b m → Sound b
-low-sound h = let o = h.octave in record { number = h.b_number; quietest = h.quietest; loudest = le_trans (omega arith) h.loudest }
+pub low_sound : {b m : Float} → Levels b m → Sound b
+low_sound h = let o = h.octave in record { number = h.b_number; quietest = h.quietest; loudest = le_trans (omega arith) h.loudest }
 
-pub high-sound : {b m : Float} → Levels b m → Sound m
-high-sound h = let o = h.octave in record { number = h.m-number; quietest = le_trans h.quietest (omega arith); loudest = h.loudest }
+pub high_sound : {b m : Float} → Levels b m → Sound m
+high_sound h = let o = h.octave in record { number = h.m_number; quietest = le_trans h.quietest (omega arith); loudest = h.loudest }
 
 -- a float with something above zero has nothing below it
 pub positive : (x : Float) → 0 < P x → N x ≡ 0
@@ -48,7 +48,7 @@ module _ {x : Float} (s : Sound x) where
   pub accepted : Accepts x
   accepted = record {
     number = s.number;
-    at-least-zero = positive x above_zero;
+    at_least_zero = positive x above_zero;
     normal = le_trans (pow_mono {i = 23} {j = 125} (omega arith)) (subst (λ (n : ℕ). 2 ^ 125 ≤ n) size s.quietest);
   }
 
@@ -63,18 +63,18 @@ module _ {x : Float} (s : Sound x) where
 module _ {x y : Float} (s : Sound x) (s' : Sound y) (less : P x ≤ P y) where
   -- the louder has no smaller logarithm
   pub rises : fixed_of x ≤ fixed_of y
-  rises = fixed_order y x (accepted s') (accepted s) (in_order (P x) (N x) (P y) (N y) (accepted s).at-least-zero (accepted s').at-least-zero less)
+  rises = fixed_order y x (accepted s') (accepted s) (in_order (P x) (N x) (P y) (N y) (accepted s).at_least_zero (accepted s').at_least_zero less)
     where
       in_order : (p n p' n' : ℕ) → n ≡ 0 → n' ≡ 0 → p ≤ p' → p + n' ≤ p' + n
       in_order p n p' n' z z' h = omega arith
 
   -- its level is the other's and the rise
-  pub level-sum : fixed_of y ≡ fixed_of x + rise_of x y
+  pub level_sum : fixed_of y ≡ fixed_of x + rise_of x y
   unfolding rise_of
-  level-sum = let l = rises in omega arith
+  level_sum = let l = rises in omega arith
 
   pub encloses_sum : Enclosed (P y) (2 ^ 22) (fixed_of x + rise_of x y) width shift parts
-  encloses_sum = rw level-sum at (encloses s')
+  encloses_sum = rw level_sum at (encloses s')
 
   -- a rise has 59 digits
   pub rise_few : rise_of x y < 2 ^ 59

@@ -63,7 +63,7 @@ module _ (top : ℕ) (b m : Float) (t c : ℕ) (ch : Channel top b m t c) where
         quiet = λ h k l. step_quiet b m t c a l;
         loud = λ h k l. elim (le-or-lt (P a) (P b)) [ inl r ↦ absurd (below_both a l r) | inr r ↦ step_loud b m t c a r l ];
         near = λ h k l r. within b m t c sg (map_error_num top) map_error_den allowed a n l r;
-        order = λ h k a' k' l. never_falls b m t c sg a a' n k'.number (omega (arith, e.at-least-zero, k'.at-least-zero));
+        order = λ h k a' k' l. never_falls b m t c sg a a' n k'.number (omega (arith, e.at_least_zero, k'.at_least_zero));
       }
 
 -- an accepted channel with another a

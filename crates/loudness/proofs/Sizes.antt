@@ -4,11 +4,11 @@ use lib.Ieee.{Float, binary32, fits, to_bits}
 use Rattle.units.specs.Units.{mag, negative, P, N, Number}
 use Rattle.units.specs.Tests.{Tells}
 use Rattle.units.proofs.Naturals.{le-or-lt}
-use Rattle.units.proofs.Patterns.{Shape, packed, packed_le, packed_lt, packed_of, finite-below, within}
+use Rattle.units.proofs.Patterns.{Shape, packed, packed_le, packed_lt, packed_of, finite_below, within}
 use Rattle.units.proofs.Between.{sign_clear, sign_set}
 use Rattle.loudness.specs.Map.{Levels, Envelope}
 use Rattle.loudness.specs.Segment.{size_bits}
-use Rattle.loudness.proofs.Known.{Sound, low-sound, high-sound, above_zero, positive}
+use Rattle.loudness.proofs.Known.{Sound, low_sound, high_sound, above_zero, positive}
 
 -- 2 ^ -24 and 1
 quietest : Shape 8388608 102
@@ -27,28 +27,28 @@ pub record Sized (x : Float) : Type 0 where
   pub own : 0 < P x → to_bits binary32 x ≡ size_bits x
 
 -- the pattern of -0, and any other
-pub other-bits : (x : Float) → ¬ (to_bits binary32 x ≡ 2147483648) → size_bits x ≡ to_bits binary32 x
+pub other_bits : (x : Float) → ¬ (to_bits binary32 x ≡ 2147483648) → size_bits x ≡ to_bits binary32 x
 unfolding size_bits
-other-bits x n = rw (ne_eqb (to_bits binary32 x) 2147483648 n)
+other_bits x n = rw (ne_eqb (to_bits binary32 x) 2147483648 n)
 
 clear_bits : (x : Float) → to_bits binary32 x < 2147483648 → size_bits x ≡ to_bits binary32 x
-clear_bits x l = other-bits x (λ e. lt_irrefl 2147483648 (subst (λ (n : ℕ). n < 2147483648) e l))
+clear_bits x l = other_bits x (λ e. lt_irrefl 2147483648 (subst (λ (n : ℕ). n < 2147483648) e l))
 
-pub set-bits : (x : Float) → to_bits binary32 x ≡ 2147483648 → size_bits x ≡ 0
+pub set_bits : (x : Float) → to_bits binary32 x ≡ 2147483648 → size_bits x ≡ 0
 unfolding size_bits
-set-bits x e = rw (eq-eqb (to_bits binary32 x) 2147483648 e)
+set_bits x e = rw (eq-eqb (to_bits binary32 x) 2147483648 e)
 
 pub sized : (x : Float) → Number x → N x ≡ 0 → Sized x
-sized x n z = let t = packed_of x n in go t.m t.k t.shape t.units t.size-bits (negative x) refl t.top_bit
+sized x n z = let t = packed_of x n in go t.m t.k t.shape t.units t.size_bits_lem (negative x) refl t.top_bit
   where
     Bits : ℕ
     Bits = to_bits binary32 x
 
     nothing : (m k : ℕ) → Shape m k → m * 2 ^ k ≡ 0 → (m ≡ 0) × (k ≡ 0)
-    nothing m k s e = let f : m ≡ 0 = zero-digits m (2 ^ k) (pow_pos k) e in (f, elim s.first [ inl h ↦ h | inr h ↦ absurd (omega arith) ])
+    nothing m k s e = let f : m ≡ 0 = zero_digits m (2 ^ k) (pow_pos k) e in (f, elim s.first [ inl h ↦ h | inr h ↦ absurd (omega arith) ])
       where
-        zero-digits : (m u : ℕ) → 0 < u → m * u ≡ 0 → m ≡ 0
-        zero-digits m u p e = omega (arith, mul-le-mul_left m p)
+        zero_digits : (m u : ℕ) → 0 < u → m * u ≡ 0 → m ≡ 0
+        zero_digits m u p e = omega (arith, mul-le-mul_left m p)
 
     go : (m k : ℕ) → Shape m k → mag x ≡ m * 2 ^ k → Bits % 2147483648 ≡ packed m k → (s : Bool) → negative x ≡ s → Bits / 2147483648 ≡ cond s 1 0 → Sized x
     go m k sh u b false e c = record {
@@ -67,7 +67,7 @@ sized x n z = let t = packed_of x n in go t.m t.k t.shape t.units t.size-bits (n
           g = k;
           shape = sh;
           units = none ∙ sym (rw m0 (zero-mul (2 ^ k)));
-          bits = set-bits x (omega arith) ∙ omega arith;
+          bits = set_bits x (omega arith) ∙ omega arith;
           own = λ p. absurd (not-le_of_lt p (le_of_eq none));
         }
 
@@ -113,7 +113,7 @@ module _ {x : Float} (s : Sound x) where
 
 -- a pattern up to that of 1 is of a number that is not negative
 plain : (x : Float) → T (fits binary32 x) → to_bits binary32 x ≤ 1065353216 → Number x × (N x ≡ 0)
-plain x f u = let n = finite-below x f (omega arith) in (n, (sign_clear x n (omega arith)).1)
+plain x f u = let n = finite_below x f (omega arith) in (n, (sign_clear x n (omega arith)).1)
 
 -- ---- the levels of a channel
 module _ (b m : Float) where
@@ -135,7 +135,7 @@ module _ (b m : Float) where
       let sb : Sound b = record { number = nb; quietest = q; loudest = le_trans up u } in
       record {
         b_number = nb;
-        m-number = nm;
+        m_number = nm;
         quietest = q;
         octave = le_trans (le_of_eq (sym (double sb))) (at_least _ _ (twice sb) m (sized m nm zm) (le_trans (next (sound_sized sb).S (sound_sized sb).g (sym kb ∙ (sound_sized sb).bits)) (le_of_eq (sym km))));
         loudest = u;
@@ -147,10 +147,10 @@ module _ (b m : Float) where
   -- each test that fails rules the levels out
   module _ (v : Levels b m) where
     sb : Sound b
-    sb = low-sound v
+    sb = low_sound v
 
     sm : Sound m
-    sm = high-sound v
+    sm = high_sound v
 
     pub too_quiet : l < 864026624 → ⊥
     too_quiet t = not-le_of_lt (less 8388608 102 quietest b (sound_sized sb) (rw (own_bits sb) at t)) v.quietest
@@ -167,7 +167,7 @@ module _ (b m : Float) where
 -- ---- an envelope value
 pub envelope : (a : Float) → T (fits binary32 a) → Tells (Envelope a) (leb (size_bits a) 1065353216)
 unfolding size_bits
-envelope a f = record { if_true = λ e. yes (leb-true _ _ e); if_false = λ e r. not-le_of_lt (more 8388608 126 one a (sized a r.number r.at-least-zero) (leb-false _ _ e)) r.at_most_one }
+envelope a f = record { if_true = λ e. yes (leb-true _ _ e); if_false = λ e r. not-le_of_lt (more 8388608 126 one a (sized a r.number r.at_least_zero) (leb-false _ _ e)) r.at_most_one }
   where
     minus : to_bits binary32 a ≡ 2147483648 → Number a × (N a ≡ 0)
     minus e =
@@ -183,12 +183,12 @@ envelope a f = record { if_true = λ e. yes (leb-true _ _ e); if_false = λ e r.
         go false e h = plain a f h
 
     yes : size_bits a ≤ 1065353216 → Envelope a
-    yes l = let (n, z) = either l in record { number = n; at-least-zero = z; at_most_one = at_most 8388608 126 one a (sized a n z) l }
+    yes l = let (n, z) = either l in record { number = n; at_least_zero = z; at_most_one = at_most 8388608 126 one a (sized a n z) l }
 
 -- one below 2 ^ -24 has a pattern below that of it
 pub quieter : {a : Float} → Envelope a → P a < 2 ^ 125 → size_bits a < 864026624
 quieter {a} e l = elim (le-or-lt 864026624 (size_bits a)) [
-  | inl h ↦ absurd (not-le_of_lt l (at_least 8388608 102 quietest a (sized a e.number e.at-least-zero) h))
+  | inl h ↦ absurd (not-le_of_lt l (at_least 8388608 102 quietest a (sized a e.number e.at_least_zero) h))
   | inr h ↦ h
 ]
 
@@ -196,13 +196,13 @@ quieter {a} e l = elim (le-or-lt 864026624 (size_bits a)) [
 pub up_to_one : {a : Float} → Envelope a → size_bits a ≤ 1065353216
 up_to_one {a} e = elim (le-or-lt (size_bits a) 1065353216) [
   | inl h ↦ h
-  | inr h ↦ absurd (not-le_of_lt (more 8388608 126 one a (sized a e.number e.at-least-zero) h) e.at_most_one)
+  | inr h ↦ absurd (not-le_of_lt (more 8388608 126 one a (sized a e.number e.at_least_zero) h) e.at_most_one)
 ]
 
 -- ---- an envelope value against a level
 module _ {a x : Float} (e : Envelope a) (s : Sound x) where
   value_sized : Sized a
-  value_sized = sized a e.number e.at-least-zero
+  value_sized = sized a e.number e.at_least_zero
 
   pub up_to : size_bits a ≤ to_bits binary32 x → P a ≤ P x
   up_to l = sizes_le a x value_sized (sound_sized s) (rw (own_bits s) at l)

@@ -9,30 +9,30 @@ use Rattle.loudness.specs.Words.{Passes, BentPasses, Answered, Chosen, step_in, 
 use Rattle.loudness.specs.Fitted.{fitted_of, fitted_knee, as_they_are, Fits, Changed, Step}
 use Rattle.loudness.proofs.Promise.{segment, promised, out_of_range}
 use Rattle.loudness.proofs.Bent as bends
-use Rattle.loudness.proofs.Bending.{bent-below, bent-above, knee_passes, same-bent, bent_bounded, changed-knee}
+use Rattle.loudness.proofs.Bending.{bent_below, bent_above, knee_passes, same_bent, bent_bounded, changed_knee}
 use Rattle.loudness.proofs.Check.{changed_fails}
-use Rattle.loudness.proofs.Fitting.{segment-length, segment_passes, segment-words-few, same_step, bounded}
+use Rattle.loudness.proofs.Fitting.{segment_length, segment_passes, segment_words_few, same_step, bounded}
 
 -- how many words there are
-knee-length : (b k m : Float) (t s c : ℕ) → length (fitted_knee b k m t s c) ≡ 12
+knee_length : (b k m : Float) (t s c : ℕ) → length (fitted_knee b k m t s c) ≡ 12
 unfolding segment_words five_words
-knee-length b k m t s c = refl
+knee_length b k m t s c = refl
 
-changed-length : {words w : List ℕ} → Changed words w → length w ≡ length words
-changed-length {words} {w} h = ap length h.changed ∙ length-set words h.place h.other
+changed_length : {words w : List ℕ} → Changed words w → length w ≡ length words
+changed_length {words} {w} h = ap length h.changed ∙ length-set words h.place h.other
 
 -- a segment with one word changed does not pass
-pub changed-segment : (b m : Float) (t c : ℕ) → Segment b m t c → {w : List ℕ} → Changed (segment_words b m t c) w → Passes w → ⊥
-changed-segment b m t c sg {w} h p = changed_fails (segment_words b m t c) w (segment-words-few b m t c sg) (segment_passes b m t c sg) h p
+pub changed_segment : (b m : Float) (t c : ℕ) → Segment b m t c → {w : List ℕ} → Changed (segment_words b m t c) w → Passes w → ⊥
+changed_segment b m t c sg {w} h p = changed_fails (segment_words b m t c) w (segment_words_few b m t c sg) (segment_passes b m t c sg) h p
 
 -- ---- words of another number
 pub wrong_number : (w : List ℕ) (a : Float) → ¬ (length w ≡ 6) → ¬ (length w ≡ 12) → Step w a 2 0
 wrong_number w a n n' = record {
   bad_length = λ h k. refl;
-  straight = λ top b m t c ch e. absurd (n (ap length e ∙ segment-length b m t c));
-  bent = λ top b k m t s c ch e. absurd (n' (ap length e ∙ knee-length b k m t s c));
-  changed-straight = λ top b m t c ch e. absurd (n (changed-length e ∙ segment-length b m t c));
-  changed-bent = λ top b k m t s c ch e. absurd (n' (changed-length e ∙ knee-length b k m t s c));
+  straight = λ top b m t c ch e. absurd (n (ap length e ∙ segment_length b m t c));
+  bent = λ top b k m t s c ch e. absurd (n' (ap length e ∙ knee_length b k m t s c));
+  changed_straight = λ top b m t c ch e. absurd (n (changed_length e ∙ segment_length b m t c));
+  changed_bent = λ top b k m t s c ch e. absurd (n' (changed_length e ∙ knee_length b k m t s c));
   out_of_range = λ h k. absurd (elim h [ inl e ↦ n e | inr e ↦ n' e ]);
   answered = λ h e. elim h [ inl l ↦ absurd (n l) | inr l ↦ absurd (n' l) ];
   at_least = λ z. absurd (omega arith);
@@ -41,16 +41,16 @@ wrong_number w a n n' = record {
 
 -- ---- six words
 module _ (w : List ℕ) (a : Float) (six : length w ≡ 6) where
-  not-bent : length w ≡ 12 → ⊥
-  not-bent e = omega arith
+  not_bent : length w ≡ 12 → ⊥
+  not_bent e = omega arith
 
   fails : (i : ℕ) → ¬ Passes w → Step w a 4 i
   fails i n = record {
     bad_length = λ h k. absurd (h six);
     straight = λ top b m t c ch e. absurd (n (rw e (segment_passes b m t c (segment ch))));
-    bent = λ top b k m t s c ch e. absurd (not-bent (ap length e ∙ knee-length b k m t s c));
-    changed-straight = λ top b m t c ch e. refl;
-    changed-bent = λ top b k m t s c ch e. refl;
+    bent = λ top b k m t s c ch e. absurd (not_bent (ap length e ∙ knee_length b k m t s c));
+    changed_straight = λ top b m t c ch e. refl;
+    changed_bent = λ top b k m t s c ch e. refl;
     out_of_range = λ h k. inr refl;
     answered = λ h e. inr refl;
     at_least = λ z. absurd (omega arith);
@@ -59,15 +59,15 @@ module _ (w : List ℕ) (a : Float) (six : length w ≡ 6) where
 
   module _ (p : Passes w) where
     changed : (top : ℕ) (b m : Float) (t c : ℕ) → Channel top b m t c → Changed (fitted_of b m t c) w → ⊥
-    changed top b m t c ch e = changed-segment b m t c (segment ch) e p
+    changed top b m t c ch e = changed_segment b m t c (segment ch) e p
 
     refused : (i : ℕ) → ¬ Envelope a → Step w a 1 i
     refused i n = record {
       bad_length = λ h k. absurd (h six);
       straight = λ top b m t c ch e. out_of_range top b m t c a i ch n;
-      bent = λ top b k m t s c ch e. absurd (not-bent (ap length e ∙ knee-length b k m t s c));
-      changed-straight = λ top b m t c ch e. absurd (changed top b m t c ch e);
-      changed-bent = λ top b k m t s c ch e. absurd (not-bent (changed-length e ∙ knee-length b k m t s c));
+      bent = λ top b k m t s c ch e. absurd (not_bent (ap length e ∙ knee_length b k m t s c));
+      changed_straight = λ top b m t c ch e. absurd (changed top b m t c ch e);
+      changed_bent = λ top b k m t s c ch e. absurd (not_bent (changed_length e ∙ knee_length b k m t s c));
       out_of_range = λ h k. inl refl;
       answered = λ h e. absurd (n e);
       at_least = λ z. absurd (omega arith);
@@ -78,9 +78,9 @@ module _ (w : List ℕ) (a : Float) (six : length w ≡ 6) where
     stepped v = record {
       bad_length = λ h k. absurd (h six);
       straight = λ top b m t c ch e. rw (e, same_step b m t c (segment ch) a v) (promised top b m t c ch a v);
-      bent = λ top b k m t s c ch e. absurd (not-bent (ap length e ∙ knee-length b k m t s c));
-      changed-straight = λ top b m t c ch e. absurd (changed top b m t c ch e);
-      changed-bent = λ top b k m t s c ch e. absurd (not-bent (changed-length e ∙ knee-length b k m t s c));
+      bent = λ top b k m t s c ch e. absurd (not_bent (ap length e ∙ knee_length b k m t s c));
+      changed_straight = λ top b m t c ch e. absurd (changed top b m t c ch e);
+      changed_bent = λ top b k m t s c ch e. absurd (not_bent (changed_length e ∙ knee_length b k m t s c));
       out_of_range = λ h k. absurd (k v);
       answered = λ h e. inl refl;
       at_least = λ z. (bounded w (size_bits a)).0;
@@ -89,16 +89,16 @@ module _ (w : List ℕ) (a : Float) (six : length w ≡ 6) where
 
 -- ---- twelve words
 module _ (w : List ℕ) (a : Float) (twelve : length w ≡ 12) where
-  not-straight : length w ≡ 6 → ⊥
-  not-straight e = omega arith
+  not_straight : length w ≡ 6 → ⊥
+  not_straight e = omega arith
 
   bent_fails : ¬ BentPasses w → Step w a 4 0
   bent_fails n = record {
     bad_length = λ h k. absurd (k twelve);
-    straight = λ top b m t c ch e. absurd (not-straight (ap length e ∙ segment-length b m t c));
+    straight = λ top b m t c ch e. absurd (not_straight (ap length e ∙ segment_length b m t c));
     bent = λ top b k m t s c ch e. absurd (n (rw e (knee_passes top b k m t s c ch)));
-    changed-straight = λ top b m t c ch e. refl;
-    changed-bent = λ top b k m t s c ch e. refl;
+    changed_straight = λ top b m t c ch e. refl;
+    changed_bent = λ top b k m t s c ch e. refl;
     out_of_range = λ h k. inr refl;
     answered = λ h e. inr refl;
     at_least = λ z. absurd (omega arith);
@@ -109,10 +109,10 @@ module _ (w : List ℕ) (a : Float) (twelve : length w ≡ 12) where
     bent_refused : (i : ℕ) → ¬ Envelope a → Step w a 1 i
     bent_refused i n = record {
       bad_length = λ h k. absurd (k twelve);
-      straight = λ top b m t c ch e. absurd (not-straight (ap length e ∙ segment-length b m t c));
+      straight = λ top b m t c ch e. absurd (not_straight (ap length e ∙ segment_length b m t c));
       bent = λ top b k m t s c ch e. bends.out_of_range top b k m t s c a i ch n;
-      changed-straight = λ top b m t c ch e. absurd (not-straight (changed-length e ∙ segment-length b m t c));
-      changed-bent = λ top b k m t s c ch e. absurd (changed-knee top b k m t s c ch w e p);
+      changed_straight = λ top b m t c ch e. absurd (not_straight (changed_length e ∙ segment_length b m t c));
+      changed_bent = λ top b k m t s c ch e. absurd (changed_knee top b k m t s c ch w e p);
       out_of_range = λ h k. inl refl;
       answered = λ h e. absurd (n e);
       at_least = λ z. absurd (omega arith);
@@ -122,10 +122,10 @@ module _ (w : List ℕ) (a : Float) (twelve : length w ≡ 12) where
     bent_stepped : Envelope a → Step w a 0 (bent_in w (size_bits a))
     bent_stepped v = record {
       bad_length = λ h k. absurd (k twelve);
-      straight = λ top b m t c ch e. absurd (not-straight (ap length e ∙ segment-length b m t c));
-      bent = λ top b k m t s c ch e. rw (e, same-bent top b k m t s c ch a v) (bends.kept top b k m t s c ch a v);
-      changed-straight = λ top b m t c ch e. absurd (not-straight (changed-length e ∙ segment-length b m t c));
-      changed-bent = λ top b k m t s c ch e. absurd (changed-knee top b k m t s c ch w e p);
+      straight = λ top b m t c ch e. absurd (not_straight (ap length e ∙ segment_length b m t c));
+      bent = λ top b k m t s c ch e. rw (e, same_bent top b k m t s c ch a v) (bends.kept top b k m t s c ch a v);
+      changed_straight = λ top b m t c ch e. absurd (not_straight (changed_length e ∙ segment_length b m t c));
+      changed_bent = λ top b k m t s c ch e. absurd (changed_knee top b k m t s c ch w e p);
       out_of_range = λ h k. absurd (k v);
       answered = λ h e. inl refl;
       at_least = λ z. (bent_bounded w (size_bits a) p).0;
@@ -171,13 +171,13 @@ module _ {a : Float} {code before after : ℕ} where
       elim ch.how [
         | inl (e, n, n') ↦ absurd (omega arith)
         | inr (inl (e, s, n)) ↦ absurd (omega arith)
-        | inr (inr (inl (e, s))) ↦ as_straight w s (rw (take_all 6 w (le_of_eq s)) at (at-start e))
-        | inr (inr (inr (inl (e, (s, p, h))))) ↦ as_half w (take 6 w) s p p.lower (λ u. bent-below w (size_bits a) (h u)) (at-start e)
-        | inr (inr (inr (inr (e, (s, p, h))))) ↦ as_half w (drop 6 w) s p p.upper (λ u. bent-above w (size_bits a) (h u)) (rw (take_all 6 (drop 6 w) (le_of_eq (length-drop 6 w ∙ ap (λ (n : ℕ). n - 6) s))) at (at_half e))
+        | inr (inr (inl (e, s))) ↦ as_straight w s (rw (take_all 6 w (le_of_eq s)) at (at_start e))
+        | inr (inr (inr (inl (e, (s, p, h))))) ↦ as_half w (take 6 w) s p p.lower (λ u. bent_below w (size_bits a) (h u)) (at_start e)
+        | inr (inr (inr (inr (e, (s, p, h))))) ↦ as_half w (drop 6 w) s p p.upper (λ u. bent_above w (size_bits a) (h u)) (rw (take_all 6 (drop 6 w) (le_of_eq (length-drop 6 w ∙ ap (λ (n : ℕ). n - 6) s))) at (at_half e))
       ]
     where
-      at-start : at ≡ 0 → Ends itself (Answered (take 6 w) a) code before after
-      at-start e = subst (λ (i : ℕ). Ends itself (Answered (take (i + 6 - i) (drop i w)) a) code before after) e x
+      at_start : at ≡ 0 → Ends itself (Answered (take 6 w) a) code before after
+      at_start e = subst (λ (i : ℕ). Ends itself (Answered (take (i + 6 - i) (drop i w)) a) code before after) e x
 
       at_half : at ≡ 6 → Ends itself (Answered (take 6 (drop 6 w)) a) code before after
       at_half e = subst (λ (i : ℕ). Ends itself (Answered (take (i + 6 - i) (drop i w)) a) code before after) e x
@@ -221,8 +221,8 @@ module _ (w : List ℕ) (a : Float) (at : ℕ) (ch : Chosen w a at) {before : �
 
 -- ---- how a call of `fit` or `fit_knee` ends
 module _ {Good : Type 0} {words : List ℕ} {n : ℕ} {before : List ℕ} where
-  pub other-number : ¬ (length before ≡ n) → Ends as_they_are (Fits Good words n (length before)) 2 before before
-  other-number h = untouched 2 [] (λ z. omega arith) (record { bad_length = λ k. refl; bad_channel = λ k. absurd (h k); success = λ k. absurd (h k); value = λ k. absurd (h k) })
+  pub other_number : ¬ (length before ≡ n) → Ends as_they_are (Fits Good words n (length before)) 2 before before
+  other_number h = untouched 2 [] (λ z. omega arith) (record { bad_length = λ k. refl; bad_channel = λ k. absurd (h k); success = λ k. absurd (h k); value = λ k. absurd (h k) })
 
   pub no_channel : length before ≡ n → ¬ Good → Ends as_they_are (Fits Good words n (length before)) 4 before before
   no_channel s g = untouched 4 [] (λ z. omega arith) (record { bad_length = λ k. absurd (k s); bad_channel = λ k h. refl; success = λ k h. absurd (g h); value = λ k h. absurd (g h) })

@@ -40,16 +40,16 @@ lower n d w k i num den Y py ik c al =
 -- the step is within num / den of the exact map
 module _ (A B M unit Lb n d w m q k Y i num den : ℕ) (ro : Rounded k n d Y i) (al : Allows num den w k d Y)
     (ea : Enclosed A unit (Lb + n) w m q) (eb : Enclosed B unit Lb w m q) (em : Enclosed M unit (Lb + d) w m q) where
-  pub not-below : RatioAtMost A B M (den * k) (den * i + num)
-  not-below =
+  pub not_below : RatioAtMost A B M (den * k) (den * i + num)
+  not_below =
       products (den * k) (den * i + num) ea.at_most eb.at_most eb.at_least em.at_least
       (sums Lb n d w (den * k) (den * i + num) (upper n d w k i num den Y ro.parts ro.most ro.ceiling al))
     where
       sums : (L n d w K J : ℕ) → (n + w) * K + w * J ≤ d * J → (L + n + w) * K + (L + w) * J ≤ L * K + (L + d) * J
       sums L n d w K J h = omega arith
 
-  pub not-above : B ≤ A → RatioAtLeast A B M (den * k) (den * i - num)
-  not-above ba = go (le-or-lt num (den * i))
+  pub not_above : B ≤ A → RatioAtLeast A B M (den * k) (den * i - num)
+  not_above ba = go (le-or-lt num (den * i))
     where
       sums : (L n d w K J : ℕ) → (d + w) * J + w * K ≤ n * K → (L + w) * K + (L + d + w) * J ≤ (L + n) * K + L * J
       sums L n d w K J h = omega arith

@@ -99,16 +99,16 @@ module _ (d : ℕ) (long : 2 ^ 53 ≤ d) (few : d < 2 ^ 59) where
   full = let (a, b, c, e) = places in (omega arith, omega arith)
 
   module _ (n : ℕ) (le : n ≤ d) where
-    pub word-most : word_of s n ≤ h
+    pub word_most : word_of s n ≤ h
     unfolding word_of
-    word-most = floors (mul-le-mul_right (2 ^ s) le) (lit< tt)
+    word_most = floors (mul-le-mul_right (2 ^ s) le) (lit< tt)
 
     pub rise_whole : n * 2 ^ s < 2 ^ 64
     rise_whole = lt_of_le_of_lt (mul-le-mul_right (2 ^ s) le) places.3
 
-    pub steps-rounded : (k : ℕ) → Rounded k n d 1073741824 (steps_of k n d)
+    pub steps_rounded : (k : ℕ) → Rounded k n d 1073741824 (steps_of k n d)
     unfolding steps_of nearest_step word_of
-    steps-rounded k = rounded k n d (2 ^ s) (word_of s n) h (pow_pos s) word-most full.0 (omega arith) (omega arith) (omega arith) (omega arith)
+    steps_rounded k = rounded k n d (2 ^ s) (word_of s n) h (pow_pos s) word_most full.0 (omega arith) (omega arith) (omega arith) (omega arith)
 
   -- a larger rise gives no smaller step
   pub steps_mono : (n n' k : ℕ) → n ≤ n' → steps_of k n d ≤ steps_of k n' d

@@ -53,8 +53,8 @@ pub record Step (w : List ℕ) (a : Float) (code i : ℕ) : Type 0 where
   pub straight : (top : ℕ) (b m : Float) (t c : ℕ) → Channel top b m t c → w ≡ fitted_of b m t c → Loudness top b m t c a code i
   pub bent : (top : ℕ) (b k m : Float) (t s c : ℕ) → BentChannel top b k m t s c → w ≡ fitted_knee b k m t s c → LoudnessKnee top b k m t s c a code i
   -- whatever single word of a fitted channel is changed: code 4
-  pub changed-straight : (top : ℕ) (b m : Float) (t c : ℕ) → Channel top b m t c → Changed (fitted_of b m t c) w → code ≡ 4
-  pub changed-bent : (top : ℕ) (b k m : Float) (t s c : ℕ) → BentChannel top b k m t s c → Changed (fitted_knee b k m t s c) w → code ≡ 4
+  pub changed_straight : (top : ℕ) (b m : Float) (t c : ℕ) → Channel top b m t c → Changed (fitted_of b m t c) w → code ≡ 4
+  pub changed_bent : (top : ℕ) (b k m : Float) (t s c : ℕ) → BentChannel top b k m t s c → Changed (fitted_knee b k m t s c) w → code ≡ 4
   -- of any words: code 1, OUT_OF_RANGE, or 4 for what is no envelope value, and for one code 4, or a step between the threshold and the comfort that stand in the words
   pub out_of_range : (length w ≡ straight_words) ⊎ (length w ≡ bent_words) → ¬ Envelope a → (code ≡ 1) ⊎ (code ≡ 4)
   pub answered : (length w ≡ straight_words) ⊎ (length w ≡ bent_words) → Envelope a → (code ≡ 0) ⊎ (code ≡ 4)

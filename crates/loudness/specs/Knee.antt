@@ -20,15 +20,15 @@ pub record LoudnessKnee (top : ℕ) (b k m : Float) (t s c : ℕ) (a : Float) (c
   pub value : BentChannel top b k m t s c → Envelope a → i ≡ knee_of b k m t s c a
   -- between threshold and the knee's step up to k, between that and comfort from k on
   pub at_least : BentChannel top b k m t s c → Envelope a → t ≤ i
-  pub below-knee : BentChannel top b k m t s c → Envelope a → P a ≤ P k → i ≤ s
-  pub above-knee : BentChannel top b k m t s c → Envelope a → P k ≤ P a → s ≤ i
+  pub below_knee : BentChannel top b k m t s c → Envelope a → P a ≤ P k → i ≤ s
+  pub above_knee : BentChannel top b k m t s c → Envelope a → P k ≤ P a → s ≤ i
   pub at_most : BentChannel top b k m t s c → Envelope a → i ≤ c
   -- threshold for a ≤ b, the knee's step at k, comfort for a ≥ m
   pub quiet : BentChannel top b k m t s c → Envelope a → P a ≤ P b → i ≡ t
   pub knee : BentChannel top b k m t s c → Envelope a → P a ≡ P k → i ≡ s
   pub loud : BentChannel top b k m t s c → Envelope a → P m ≤ P a → i ≡ c
   -- within the constant of the exact map on both sides
-  pub near-below : BentChannel top b k m t s c → Envelope a → P b < P a → P a < P k → NearMap (map_error_num top) map_error_den b k t s a i
-  pub near-above : BentChannel top b k m t s c → Envelope a → P k < P a → P a < P m → NearMap (map_error_num top) map_error_den k m s c a i
+  pub near_below : BentChannel top b k m t s c → Envelope a → P b < P a → P a < P k → NearMap (map_error_num top) map_error_den b k t s a i
+  pub near_above : BentChannel top b k m t s c → Envelope a → P k < P a → P a < P m → NearMap (map_error_num top) map_error_den k m s c a i
   -- a louder sound never gets a smaller step, across the knee too
   pub order : BentChannel top b k m t s c → Envelope a → (a' : Float) → Envelope a' → Le a' a → knee_of b k m t s c a' ≤ i

@@ -6,7 +6,7 @@ use Rattle.loudness.specs.Value.{step_of}
 -- the sound levels of a channel: 2 ^ -24 ≤ b, 2 b ≤ m ≤ 1, as exact numbers
 pub record Levels (b m : Float) : Type 0 where
   pub b_number : Number b
-  pub m-number : Number m
+  pub m_number : Number m
   pub quietest : 2 ^ 125 ≤ P b
   pub octave : 2 * P b ≤ P m
   pub loudest : P m ≤ 2 ^ 149
@@ -21,7 +21,7 @@ pub record Channel (top : ℕ) (b m : Float) (t c : ℕ) : Type 0 where
 -- an envelope value: 0 ≤ a ≤ 1; -0 counts as 0
 pub record Envelope (a : Float) : Type 0 where
   pub number : Number a
-  pub at-least-zero : N a ≡ 0
+  pub at_least_zero : N a ≡ 0
   pub at_most_one : P a ≤ 2 ^ 149
 
 -- (a / b) ^ k ≤ (m / b) ^ j, for whole numbers of one unit: log (a / b) / log (m / b) is at most j / k
@@ -34,8 +34,8 @@ RatioAtLeast a b m k j = b ^ k * m ^ j ≤ a ^ k * b ^ j
 
 -- i is within num / den of t + (c - t) log (a / b) / log (m / b), the exact map between b and m
 pub record NearMap (num den : ℕ) (b m : Float) (t c : ℕ) (a : Float) (i : ℕ) : Type 0 where
-  pub not-below : RatioAtMost (P a) (P b) (P m) (den * (c - t)) (den * (i - t) + num)
-  pub not-above : RatioAtLeast (P a) (P b) (P m) (den * (c - t)) (den * (i - t) - num)
+  pub not_below : RatioAtMost (P a) (P b) (P m) (den * (c - t)) (den * (i - t) + num)
+  pub not_above : RatioAtLeast (P a) (P b) (P m) (den * (c - t)) (den * (i - t) - num)
 
 -- the proved constant: a half and a millionth of a step where top is at most 255, a half and four millionths up to 1,023. Document 01 asks for 0.55, and for 0.6 up to 1,023
 abbrev pub map_error_num : ℕ → ℕ

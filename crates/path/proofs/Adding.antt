@@ -15,9 +15,9 @@ sum_more f low k l = ap (λ (n : ℕ). sum_of (λ j. f (low + j)) n) next ∙ ap
     back : low + (k - low) ≡ k
     back = omega arith
 
-pub sum-none : (f : ℕ → ℕ) (low : ℕ) → sum_of (λ j. f (low + j)) (low - low) ≡ 0
+pub sum_none : (f : ℕ → ℕ) (low : ℕ) → sum_of (λ j. f (low + j)) (low - low) ≡ 0
 unfolding sum_of
-sum-none f low = ap (λ (n : ℕ). sum_of (λ j. f (low + j)) n) none
+sum_none f low = ap (λ (n : ℕ). sum_of (λ j. f (low + j)) n) none
   where
     none : low - low ≡ 0
     none = omega arith
@@ -28,10 +28,10 @@ unfolding sum_of
 sum_by f g p q b zero h = omega arith
 sum_by f g p q b (suc n) h = omega (arith, sum_by f g p q b n (λ i l. h i (omega arith)), h n (omega arith))
 
-pub sum-most : (f : ℕ → ℕ) (a n : ℕ) → ((i : ℕ) → i < n → f i ≤ a) → sum_of f n ≤ n * a
+pub sum_most : (f : ℕ → ℕ) (a n : ℕ) → ((i : ℕ) → i < n → f i ≤ a) → sum_of f n ≤ n * a
 unfolding sum_of
-sum-most f a zero h = omega arith
-sum-most f a (suc n) h = omega (arith, sum-most f a n (λ i l. h i (omega arith)), h n (omega arith))
+sum_most f a zero h = omega arith
+sum_most f a (suc n) h = omega (arith, sum_most f a n (λ i l. h i (omega arith)), h n (omega arith))
 
 pub sum_same : (f g : ℕ → ℕ) (n : ℕ) → ((i : ℕ) → i < n → f i ≡ g i) → sum_of f n ≡ sum_of g n
 unfolding sum_of

@@ -10,7 +10,7 @@ use Rattle.spectrum.proofs.Unique.{blocks_same}
 use Rattle.loudness.specs.Value.{step_of}
 use Rattle.path.specs.Steps.{size_of, modulus_of, real_size, imaginary_size, envelope_of, IsCurrent}
 use Rattle.path.proofs.Adding.{sum_same}
-use Rattle.path.proofs.Bins.{real-is, imaginary-none, imaginary-some}
+use Rattle.path.proofs.Bins.{real_is, imaginary_none, imaginary_some}
 
 -- ---- so the current is one
 module _ (xs ws : List Float) (low high : ℕ) (bins : high ≤ 64) (b m : Float) (t c i i' : ℕ) (h : IsCurrent xs ws low high b m t c i) (h' : IsCurrent xs ws low high b m t c i') where
@@ -21,12 +21,12 @@ module _ (xs ws : List Float) (low high : ℕ) (bins : high ≤ 64) (b m : Float
   parts k l = ap₂ modulus_of real imaginary
     where
       real : real_size h.r k ≡ real_size h'.r k
-      real = sym (real-is h.r k) ∙ ap size_of (blocks k (omega arith)) ∙ real-is h'.r k
+      real = sym (real_is h.r k) ∙ ap size_of (blocks k (omega arith)) ∙ real_is h'.r k
 
       imaginary : imaginary_size h.r k ≡ imaginary_size h'.r k
       imaginary = elim (zero_or (k % 64)) [
-        | inl z ↦ sym (imaginary-none h.r k z) ∙ imaginary-none h'.r k z
-        | inr n ↦ sym (imaginary-some h.r k n) ∙ ap size_of (blocks (128 - k) (inside k l n)) ∙ imaginary-some h'.r k n
+        | inl z ↦ sym (imaginary_none h.r k z) ∙ imaginary_none h'.r k z
+        | inr n ↦ sym (imaginary_some h.r k n) ∙ ap size_of (blocks (128 - k) (inside k l n)) ∙ imaginary_some h'.r k n
       ]
         where
           zero_or : (x : ℕ) → (x ≡ 0) ⊎ ¬ (x ≡ 0)

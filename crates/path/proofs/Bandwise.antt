@@ -89,8 +89,8 @@ module _ (re im g X Y v : ℕ) (m : Modulus re im g) where
 sizes_part : (w a y : ℕ) → (2 ^ 24 - 1) * w ≤ a → a ≤ y → 2 ^ 24 * ((2 ^ 24 + 2) * w) ≤ (2 ^ 24 + 4) * y
 sizes_part w a y h l = omega arith
 
-bins-part : (k v y : ℕ) → k ≤ 65 * v → 2 ^ 56 * v ≤ y → 2 ^ 24 * (((2 ^ 24 + 2) * 8 + 1188 * 2 ^ 24) * k) ≤ 304 * y
-bins-part k v y h l = omega arith
+bins_part : (k v y : ℕ) → k ≤ 65 * v → 2 ^ 56 * v ≤ y → 2 ^ 24 * (((2 ^ 24 + 2) * 8 + 1188 * 2 ^ 24) * k) ≤ 304 * y
+bins_part k v y h l = omega arith
 
 most : (H k v y : ℕ) → k ≤ 65 * v → 2 ^ 56 * v ≤ y → H ≤ y → 2 ^ 27 * (H + 1188 * 2 ^ 21 * k) ≤ (2 ^ 27 + 302) * y
 most H k v y h l o = omega arith
@@ -113,9 +113,9 @@ module _ (v n : ℕ) (few : n ≤ 65) (gs : ℕ → ℕ) where
   bins = mul-le-mul_right v few
 
   -- a sum L of numbers below the sizes, against the float's a and the channel's b
-  pub band-low : (ls : ℕ → ℕ) → ((i : ℕ) → i < n → 8 * ls i ≤ v * ((2 ^ 24 + 2) * 8) * gs i + v * ((2 ^ 24 + 2) * 8 + 1188 * 2 ^ 24)) → (a b : ℕ) → S * (v * (2 ^ 24 - 1)) ≤ a → 2 ^ 56 * v ≤ b → (y : ℕ) → a ≤ y → b ≤ y
+  pub band_low : (ls : ℕ → ℕ) → ((i : ℕ) → i < n → 8 * ls i ≤ v * ((2 ^ 24 + 2) * 8) * gs i + v * ((2 ^ 24 + 2) * 8 + 1188 * 2 ^ 24)) → (a b : ℕ) → S * (v * (2 ^ 24 - 1)) ≤ a → 2 ^ 56 * v ≤ b → (y : ℕ) → a ≤ y → b ≤ y
       → 2 ^ 24 * sum_of ls n ≤ (2 ^ 24 + 42) * y
-  band-low ls each a b la lb y ly lz = final (S * v) (sum_of ls n) (n * v) (le_trans (sum_by ls gs 8 (v * ((2 ^ 24 + 2) * 8)) (v * ((2 ^ 24 + 2) * 8 + 1188 * 2 ^ 24)) n each) (le_of_eq (regroup S n))) (le_trans (le_of_eq (scaled S)) la) bins
+  band_low ls each a b la lb y ly lz = final (S * v) (sum_of ls n) (n * v) (le_trans (sum_by ls gs 8 (v * ((2 ^ 24 + 2) * 8)) (v * ((2 ^ 24 + 2) * 8 + 1188 * 2 ^ 24)) n each) (le_of_eq (regroup S n))) (le_trans (le_of_eq (scaled S)) la) bins
     where
       regroup : (s n : ℕ) → v * ((2 ^ 24 + 2) * 8) * s + n * (v * ((2 ^ 24 + 2) * 8 + 1188 * 2 ^ 24)) ≡ (2 ^ 24 + 2) * 8 * (s * v) + ((2 ^ 24 + 2) * 8 + 1188 * 2 ^ 24) * (n * v)
       regroup s n = omega arith
@@ -124,7 +124,7 @@ module _ (v n : ℕ) (few : n ≤ 65) (gs : ℕ → ℕ) where
       scaled s = omega arith
 
       final : (w L k : ℕ) → 8 * L ≤ (2 ^ 24 + 2) * 8 * w + ((2 ^ 24 + 2) * 8 + 1188 * 2 ^ 24) * k → (2 ^ 24 - 1) * w ≤ a → k ≤ 65 * v → 2 ^ 24 * L ≤ (2 ^ 24 + 42) * y
-      final w L k p q r = eighth (together (sizes_part w a y q ly) (bins-part k v y r (le_trans lb lz)) p)
+      final w L k p q r = eighth (together (sizes_part w a y q ly) (bins_part k v y r (le_trans lb lz)) p)
         where
           eighth : {x y : ℕ} → 8 * x ≤ 8 * y → x ≤ y
           eighth h = omega arith
@@ -133,9 +133,9 @@ module _ (v n : ℕ) (few : n ≤ 65) (gs : ℕ → ℕ) where
           together e f g = omega arith
 
   -- a sum H of numbers above the sizes
-  pub band-high : (hs : ℕ → ℕ) → ((i : ℕ) → i < n → 2 ^ 48 * v * gs i ≤ (2 ^ 24 + 2) * hs i + (2 ^ 24 + 2) * (1188 * (2 ^ 21 * v))) → (a b : ℕ) → a ≤ S * (v * (2 ^ 24 + 1)) → 2 ^ 56 * v ≤ b → (y : ℕ) → sum_of hs n ≤ y → b ≤ y
+  pub band_high : (hs : ℕ → ℕ) → ((i : ℕ) → i < n → 2 ^ 48 * v * gs i ≤ (2 ^ 24 + 2) * hs i + (2 ^ 24 + 2) * (1188 * (2 ^ 21 * v))) → (a b : ℕ) → a ≤ S * (v * (2 ^ 24 + 1)) → 2 ^ 56 * v ≤ b → (y : ℕ) → sum_of hs n ≤ y → b ≤ y
       → 2 ^ 24 * a ≤ (2 ^ 24 + 42) * y
-  band-high hs each a b la lb y lh lz = final (S * v) (sum_of hs n) (n * v) (le_trans (le_of_eq (regroup S)) (le_trans (sum_by gs hs (2 ^ 48 * v) (2 ^ 24 + 2) ((2 ^ 24 + 2) * (1188 * (2 ^ 21 * v))) n each) (le_of_eq (side n (sum_of hs n))))) (le_trans la (le_of_eq (scaled S))) bins lh
+  band_high hs each a b la lb y lh lz = final (S * v) (sum_of hs n) (n * v) (le_trans (le_of_eq (regroup S)) (le_trans (sum_by gs hs (2 ^ 48 * v) (2 ^ 24 + 2) ((2 ^ 24 + 2) * (1188 * (2 ^ 21 * v))) n each) (le_of_eq (side n (sum_of hs n))))) (le_trans la (le_of_eq (scaled S))) bins lh
     where
       regroup : (s : ℕ) → 2 ^ 48 * (s * v) ≡ 2 ^ 48 * v * s
       regroup s = omega arith

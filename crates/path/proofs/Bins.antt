@@ -7,17 +7,17 @@ use borrow.Author.Tests.{eq-eqb, ne_eqb}
 use Rattle.path.specs.Steps.{size_of, modulus_of, Modulus, real_size, imaginary_size}
 
 module _ (r : List ℕ) (k : ℕ) where
-  pub real-is : size_of (get_or r k 0) ≡ real_size r k
+  pub real_is : size_of (get_or r k 0) ≡ real_size r k
   unfolding real_size
-  real-is = refl
+  real_is = refl
 
-  pub imaginary-none : k % 64 ≡ 0 → 0 ≡ imaginary_size r k
+  pub imaginary_none : k % 64 ≡ 0 → 0 ≡ imaginary_size r k
   unfolding imaginary_size
-  imaginary-none h = rw (eq-eqb (k % 64) 0 h) refl
+  imaginary_none h = rw (eq-eqb (k % 64) 0 h) refl
 
-  pub imaginary-some : ¬ (k % 64 ≡ 0) → size_of (get_or r (128 - k) 0) ≡ imaginary_size r k
+  pub imaginary_some : ¬ (k % 64 ≡ 0) → size_of (get_or r (128 - k) 0) ≡ imaginary_size r k
   unfolding imaginary_size
-  imaginary-some h = rw (ne_eqb (k % 64) 0 h) refl
+  imaginary_some h = rw (ne_eqb (k % 64) 0 h) refl
 
 -- a modulus by other names of its parts
 pub carried : (re im R I g : ℕ) → re ≡ R → im ≡ I → (g ≡ modulus_of re im) × Modulus re im g → (g ≡ modulus_of R I) × Modulus R I g

@@ -31,21 +31,21 @@ back : (p : ℕ) → p < 4294967296 → Number (of_bits binary32 p) → to_bits 
 back p l n = pattern_back p l (subst (λ (t : Bool). T (not t)) (sym (nan_bits_is binary32 p)) (no_nan (of_bits binary32 p) n))
 
 module _ (p q : ℕ) (lp : p < 4294967296) (lq : q < 4294967296) (v : Levels (of_bits binary32 p) (of_bits binary32 q)) where
-  pub loud-bits : q ≤ 1065353216
-  loud-bits = elim (le-or-lt q 1065353216) [ inl l ↦ l | inr l ↦ absurd (too_loud (of_bits binary32 p) (of_bits binary32 q) v (subst (λ (n : ℕ). 1065353216 < n) (sym (back q lq v.m-number)) l)) ]
+  pub loud_bits : q ≤ 1065353216
+  loud_bits = elim (le-or-lt q 1065353216) [ inl l ↦ l | inr l ↦ absurd (too_loud (of_bits binary32 p) (of_bits binary32 q) v (subst (λ (n : ℕ). 1065353216 < n) (sym (back q lq v.m_number)) l)) ]
 
-  pub quiet-bits : p ≤ 1065353216
-  quiet-bits = elim (le-or-lt p 1065353216) [ inl l ↦ l | inr l ↦ absurd (no_octave (of_bits binary32 p) (of_bits binary32 q) v (subst (λ (n : ℕ). n < to_bits binary32 (of_bits binary32 p) + 8388608) (sym (back q lq v.m-number)) (subst (λ (n : ℕ). q < n + 8388608) (sym (back p lp v.b_number)) (far l loud-bits)))) ]
+  pub quiet_bits : p ≤ 1065353216
+  quiet_bits = elim (le-or-lt p 1065353216) [ inl l ↦ l | inr l ↦ absurd (no_octave (of_bits binary32 p) (of_bits binary32 q) v (subst (λ (n : ℕ). n < to_bits binary32 (of_bits binary32 p) + 8388608) (sym (back q lq v.m_number)) (subst (λ (n : ℕ). q < n + 8388608) (sym (back p lp v.b_number)) (far l loud_bits)))) ]
     where
       far : {p q : ℕ} → 1065353216 < p → q ≤ 1065353216 → q < p + 8388608
       far a b = omega arith
 
 -- ---- one band more
-pub bands-none : (top : ℕ) (bs : List ℕ) → Bands top bs 0
-bands-none top bs = record { each = λ i l. absurd (omega arith) }
+pub bands_none : (top : ℕ) (bs : List ℕ) → Bands top bs 0
+bands_none top bs = record { each = λ i l. absurd (omega arith) }
 
-pub bands-more : (top : ℕ) (bs : List ℕ) (n : ℕ) → Bands top bs n → Band top bs n → Bands top bs (n + 1)
-bands-more top bs n h b = record { each = λ i l. elim (last i l) [ inl e ↦ subst (Band top bs) (sym e) b | inr g ↦ h.each i g ] }
+pub bands_more : (top : ℕ) (bs : List ℕ) (n : ℕ) → Bands top bs n → Band top bs n → Bands top bs (n + 1)
+bands_more top bs n h b = record { each = λ i l. elim (last i l) [ inl e ↦ subst (Band top bs) (sym e) b | inr g ↦ h.each i g ] }
   where
     last : (i : ℕ) → i < n + 1 → (i ≡ n) ⊎ (i < n)
     last i l = elim (le-or-lt n i) [ inl g ↦ inl (both g l) | inr g ↦ inr g ]

@@ -20,10 +20,10 @@ use Rattle.path.specs.Path.{product, power, band_sum, in_sums, between, NearPath
 use Rattle.path.specs.Steps.{Products, real_size, imaginary_size, Moduli, envelope_of, sum_from}
 use Rattle.path.specs.Ready.{Small}
 use Rattle.path.proofs.Frames.{Beside, real_beside, imaginary_beside}
-use Rattle.path.proofs.Bandwise.{bin_low, bin_high, band-low, band-high, band_silent}
+use Rattle.path.proofs.Bandwise.{bin_low, bin_high, band_low, band_high, band_silent}
 use Rattle.path.proofs.Adding.{zeros}
 use Rattle.path.proofs.Envelopes.{envelope, full, most, least}
-use Rattle.path.proofs.Ratios.{above, between-most, between-least, between-above, between_either, rising, law, Starred, starred, scaled-most, scaled-least, most_wider, least_wider, Allows, allows}
+use Rattle.path.proofs.Ratios.{above, between_most, between_least, between-above, between_either, rising, law, Starred, starred, scaled_most, scaled_least, most_wider, least_wider, Allows, allows}
 
 renamed : {g g' k k' z : ℕ} {X : Difference} → g ≡ g' → k ≡ k' → Beside g k z X → Beside g' k' z X
 renamed {g' = g'} {k = k} {z = z} {X = X} e f h = subst (λ (i : ℕ). Beside g' i z X) f (subst (λ (i : ℕ). Beside i k z X) e h)
@@ -46,14 +46,14 @@ module _ (xs ws : List Float) (small : (i : ℕ) → i < 128 → Small (at xs i)
   bin : (j : ℕ) → j < n → low + j ≤ high
   bin j l = omega arith
 
-  unit-is : 2 ^ 298 * u ≡ 2 ^ 74 * v
-  unit-is = regroup (2 ^ 298) (2 ^ 74) (2 ^ 69) 64 (2 ^ 149) refl
+  unit_is : 2 ^ 298 * u ≡ 2 ^ 74 * v
+  unit_is = regroup (2 ^ 298) (2 ^ 74) (2 ^ 69) 64 (2 ^ 149) refl
     where
       regroup : (e p q k w : ℕ) → e ≡ p * q * k * w → e * u ≡ p * (q * (k * u * w))
       regroup e p q k w h = rw h (omega arith)
 
   lost_is : 590 * (2 ^ 298 * u) + 4 * (2 ^ 298 * u) ≡ 594 * (2 ^ 74 * v)
-  lost_is = ap (λ (g : ℕ). 590 * g + 4 * g) unit-is ∙ both (2 ^ 74 * v)
+  lost_is = ap (λ (g : ℕ). 590 * g + 4 * g) unit_is ∙ both (2 ^ 74 * v)
     where
       both : (g : ℕ) → 590 * g + 4 * g ≡ 594 * g
       both g = omega arith
@@ -65,10 +65,10 @@ module _ (xs ws : List Float) (small : (i : ℕ) → i < 128 → Small (at xs i)
   Y k = size (turned_total (product xs ws) s k)
 
   real : (k : ℕ) → k ≤ 64 → Beside (2 ^ 74 * v) (594 * (2 ^ 74 * v)) (real_size r k) (turned_total (product xs ws) c k)
-  real k l = renamed unit-is lost_is (real_beside xs ws small ys products r count fills c s u turns k l)
+  real k l = renamed unit_is lost_is (real_beside xs ws small ys products r count fills c s u turns k l)
 
   imaginary : (k : ℕ) → k ≤ 64 → Beside (2 ^ 74 * v) (594 * (2 ^ 74 * v)) (imaginary_size r k) (turned_total (product xs ws) s k)
-  imaginary k l = renamed unit-is lost_is (imaginary_beside xs ws small ys products r count fills c s u turns k l)
+  imaginary k l = renamed unit_is lost_is (imaginary_beside xs ws small ys products r count fills c s u turns k l)
 
   -- ---- the bins of the band
   abbrev gj : ℕ → ℕ
@@ -132,15 +132,15 @@ module _ (xs ws : List Float) (small : (i : ℕ) → i < 128 → Small (at xs i)
         wrong l g = omega arith
 
     -- ---- the two numbers between b and m
-    near-low : (l : ℕ → ℕ) → ((i : ℕ) → low ≤ i → i ≤ high → square (l i) ≤ power xs ws c s i) → 2 ^ 24 * between (in_sums u b) (in_sums u m) (band_sum l low high) ≤ (2 ^ 24 + 42) * (p * f)
-    near-low l h = elim (le-or-lt (P m) (P a)) [
-      | inl g ↦ le_trans (mul-le-mul_left (2 ^ 24) (between-most (in_sums u b) (in_sums u m) (mul-le-mul_right f up) (band_sum l low high))) (le_trans (more (in_sums u m)) (mul-le-mul_left (2 ^ 24 + 42) (mul-le-mul_right f (loudest g))))
+    near_low : (l : ℕ → ℕ) → ((i : ℕ) → low ≤ i → i ≤ high → square (l i) ≤ power xs ws c s i) → 2 ^ 24 * between (in_sums u b) (in_sums u m) (band_sum l low high) ≤ (2 ^ 24 + 42) * (p * f)
+    near_low l h = elim (le-or-lt (P m) (P a)) [
+      | inl g ↦ le_trans (mul-le-mul_left (2 ^ 24) (between_most (in_sums u b) (in_sums u m) (mul-le-mul_right f up) (band_sum l low high))) (le_trans (more (in_sums u m)) (mul-le-mul_left (2 ^ 24 + 42) (mul-le-mul_right f (loudest g))))
       | inr g ↦
           let y = mul-le-mul_right f (between-above (P b) (P m) up (P a) g) in
-          let z = mul-le-mul_right f (between-least (P b) (P m) up (P a)) in
+          let z = mul-le-mul_right f (between_least (P b) (P m) up (P a)) in
           elim (between_either (in_sums u b) (in_sums u m) (mul-le-mul_right f up) (band_sum l low high)) [
             | inl e ↦ le_trans (mul-le-mul_left (2 ^ 24) (le_trans e z)) (more (p * f))
-            | inr e ↦ le_trans (mul-le-mul_left (2 ^ 24) e) (band-low v n few gj (λ j. l (low + j)) (lower l h) (P a * f) (in_sums u b) (at_least g) floor (p * f) y z)
+            | inr e ↦ le_trans (mul-le-mul_left (2 ^ 24) e) (band_low v n few gj (λ j. l (low + j)) (lower l h) (P a * f) (in_sums u b) (at_least g) floor (p * f) y z)
           ]
     ]
       where
@@ -148,17 +148,17 @@ module _ (xs ws : List Float) (small : (i : ℕ) → i < 128 → Small (at xs i)
         more x = omega arith
 
         loudest : P m ≤ P a → P m ≤ p
-        loudest g = elim (le-or-lt (P a) (P b)) [ inl l ↦ le_trans g (le_trans l (between-least (P b) (P m) up (P a))) | inr l ↦ le_of_eq (sym (above (P b) (P m) (P a) l g)) ]
+        loudest g = elim (le-or-lt (P a) (P b)) [ inl l ↦ le_trans g (le_trans l (between_least (P b) (P m) up (P a))) | inr l ↦ le_of_eq (sym (above (P b) (P m) (P a) l g)) ]
 
-    near-high : (h : ℕ → ℕ) → ((i : ℕ) → low ≤ i → i ≤ high → power xs ws c s i ≤ square (h i)) → 2 ^ 24 * (p * f) ≤ (2 ^ 24 + 42) * between (in_sums u b) (in_sums u m) (band_sum h low high)
-    near-high h g = elim (le-or-lt (in_sums u m) (band_sum h low high)) [
-      | inl l ↦ le_trans (mul-le-mul_left (2 ^ 24) (mul-le-mul_right f (between-most (P b) (P m) up (P a)))) (le_trans (more (in_sums u m)) (mul-le-mul_left (2 ^ 24 + 42) (loudest l)))
+    near_high : (h : ℕ → ℕ) → ((i : ℕ) → low ≤ i → i ≤ high → power xs ws c s i ≤ square (h i)) → 2 ^ 24 * (p * f) ≤ (2 ^ 24 + 42) * between (in_sums u b) (in_sums u m) (band_sum h low high)
+    near_high h g = elim (le-or-lt (in_sums u m) (band_sum h low high)) [
+      | inl l ↦ le_trans (mul-le-mul_left (2 ^ 24) (mul-le-mul_right f (between_most (P b) (P m) up (P a)))) (le_trans (more (in_sums u m)) (mul-le-mul_left (2 ^ 24 + 42) (loudest l)))
       | inr l ↦
           let y = between-above (in_sums u b) (in_sums u m) (mul-le-mul_right f up) (band_sum h low high) l in
-          let z = between-least (in_sums u b) (in_sums u m) (mul-le-mul_right f up) (band_sum h low high) in
+          let z = between_least (in_sums u b) (in_sums u m) (mul-le-mul_right f up) (band_sum h low high) in
           elim (between_either (P b) (P m) up (P a)) [
             | inl e ↦ le_trans (mul-le-mul_left (2 ^ 24) (le_trans (mul-le-mul_right f e) z)) (more _)
-            | inr e ↦ le_trans (mul-le-mul_left (2 ^ 24) (mul-le-mul_right f e)) (band-high v n few gj (λ j. h (low + j)) (upper h g) (P a * f) (in_sums u b) at_most floor _ y z)
+            | inr e ↦ le_trans (mul-le-mul_left (2 ^ 24) (mul-le-mul_right f e)) (band_high v n few gj (λ j. h (low + j)) (upper h g) (P a * f) (in_sums u b) at_most floor _ y z)
           ]
     ]
       where
@@ -166,11 +166,11 @@ module _ (xs ws : List Float) (small : (i : ℕ) → i < 128 → Small (at xs i)
         more x = omega arith
 
         loudest : in_sums u m ≤ band_sum h low high → in_sums u m ≤ between (in_sums u b) (in_sums u m) (band_sum h low high)
-        loudest q = elim (le-or-lt (band_sum h low high) (in_sums u b)) [ inl w ↦ le_trans q (le_trans w (between-least (in_sums u b) (in_sums u m) (mul-le-mul_right f up) (band_sum h low high))) | inr w ↦ le_of_eq (sym (above (in_sums u b) (in_sums u m) (band_sum h low high) w q)) ]
+        loudest q = elim (le-or-lt (band_sum h low high) (in_sums u b)) [ inl w ↦ le_trans q (le_trans w (between_least (in_sums u b) (in_sums u m) (mul-le-mul_right f up) (band_sum h low high))) | inr w ↦ le_of_eq (sym (above (in_sums u b) (in_sums u m) (band_sum h low high) w q)) ]
 
     -- ---- the current
     pub near : NearPath (path_error_num top) path_error_den (power xs ws c s) low high (in_sums u b) (in_sums u m) t k (step_of b m t k a)
-    near = record { not-below = under; not-above = over }
+    near = record { not_below = under; not_above = over }
       where
         i : ℕ
         i = step_of b m t k a
@@ -190,16 +190,16 @@ module _ (xs ws : List Float) (small : (i : ℕ) → i < 128 → Small (at xs i)
         under : (l : ℕ → ℕ) → ((q : ℕ) → low ≤ q → q ≤ high → square (l q) ≤ power xs ws c s q) → RatioAtMost (between (in_sums u b) (in_sums u m) (band_sum l low high)) (in_sums u b) (in_sums u m) (1000000 * (k - t)) (1000000 * (step_of b m t k a - t) + path_error_num top)
         under l h =
             subst (λ (j : ℕ). RatioAtMost (between (in_sums u b) (in_sums u m) (band_sum l low high)) (in_sums u b) (in_sums u m) (1000000 * (k - t)) j) (sum (1000000 * (step_of b m t k a - t)) (map_error_num top) al.e (path_error_num top) al.sum)
-            (most_wider (2 ^ 24 + 42) (2 ^ 24) (1000000 * (k - t)) al.e (in_sums u b) (in_sums u m) (pow_pos 24) al.grown octave _ (p * f) (1000000 * (step_of b m t k a - t) + map_error_num top) (near-low l h) (scaled-most p (P b) (P m) _ _ f st.most))
+            (most_wider (2 ^ 24 + 42) (2 ^ 24) (1000000 * (k - t)) al.e (in_sums u b) (in_sums u m) (pow_pos 24) al.grown octave _ (p * f) (1000000 * (step_of b m t k a - t) + map_error_num top) (near_low l h) (scaled_most p (P b) (P m) _ _ f st.most))
           where
             sum : (x n e s : ℕ) → n + e ≡ s → x + n + e ≡ x + s
             sum x n e s h = omega arith
 
         over : (h : ℕ → ℕ) → ((q : ℕ) → low ≤ q → q ≤ high → power xs ws c s q ≤ square (h q)) → RatioAtLeast (between (in_sums u b) (in_sums u m) (band_sum h low high)) (in_sums u b) (in_sums u m) (1000000 * (k - t)) (1000000 * (step_of b m t k a - t) - path_error_num top)
         over h g = elim (le-or-lt (1000000 * (step_of b m t k a - t)) (path_error_num top)) [
-          | inl l ↦ subst (λ (j : ℕ). RatioAtLeast (between (in_sums u b) (in_sums u m) (band_sum h low high)) (in_sums u b) (in_sums u m) (1000000 * (k - t)) j) (sym (none l)) (nothing (in_sums u b) (in_sums u m) _ (1000000 * (k - t)) (between-least (in_sums u b) (in_sums u m) (mul-le-mul_right f up) (band_sum h low high)))
-          | inr l ↦ least_wider (2 ^ 24 + 42) (2 ^ 24) (1000000 * (k - t)) al.e (in_sums u b) (in_sums u m) (pow_pos 24) al.grown octave _ (p * f) (1000000 * (step_of b m t k a - t) - path_error_num top) above_zero (near-high h g)
-              (subst (λ (j : ℕ). RatioAtLeast (p * f) (in_sums u b) (in_sums u m) (1000000 * (k - t)) j) (split (1000000 * (step_of b m t k a - t)) (map_error_num top) al.e (path_error_num top) al.sum l) (scaled-least p (P b) (P m) _ _ f st.least))
+          | inl l ↦ subst (λ (j : ℕ). RatioAtLeast (between (in_sums u b) (in_sums u m) (band_sum h low high)) (in_sums u b) (in_sums u m) (1000000 * (k - t)) j) (sym (none l)) (nothing (in_sums u b) (in_sums u m) _ (1000000 * (k - t)) (between_least (in_sums u b) (in_sums u m) (mul-le-mul_right f up) (band_sum h low high)))
+          | inr l ↦ least_wider (2 ^ 24 + 42) (2 ^ 24) (1000000 * (k - t)) al.e (in_sums u b) (in_sums u m) (pow_pos 24) al.grown octave _ (p * f) (1000000 * (step_of b m t k a - t) - path_error_num top) above_zero (near_high h g)
+              (subst (λ (j : ℕ). RatioAtLeast (p * f) (in_sums u b) (in_sums u m) (1000000 * (k - t)) j) (split (1000000 * (step_of b m t k a - t)) (map_error_num top) al.e (path_error_num top) al.sum l) (scaled_least p (P b) (P m) _ _ f st.least))
         ]
           where
             none : {x y : ℕ} → x ≤ y → x - y ≡ 0

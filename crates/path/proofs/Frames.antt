@@ -18,12 +18,12 @@ use Rattle.spectrum.proofs.Differences.{Close, times-length}
 use Rattle.spectrum.proofs.Stage.{Transformed}
 use Rattle.spectrum.proofs.Filling.{loss, filled, sizes}
 use Rattle.spectrum.proofs.Blocks.{within}
-use Rattle.spectrum.proofs.Exact.{real-sum, imaginary-sum, end_sum}
+use Rattle.spectrum.proofs.Exact.{real_sum, imaginary_sum, end_sum}
 use Rattle.path.specs.Path.{product}
 use Rattle.path.specs.Steps.{product_word, Products, size_of, real_size, imaginary_size}
 use Rattle.path.specs.Ready.{Small}
-use Rattle.path.proofs.Products.{small_size, word_small, word-near}
-use Rattle.path.proofs.Bins.{real-is, imaginary-none, imaginary-some}
+use Rattle.path.proofs.Products.{small_size, word_small, word_near}
+use Rattle.path.proofs.Bins.{real_is, imaginary_none, imaginary_some}
 
 -- ---- a value and an exact number that are close, by their sizes
 -- v, of a size of s, is close to 2 ^ 53 X
@@ -53,8 +53,8 @@ turned (inr e) = inl e
 
 -- ---- the frame
 module _ (xs ws : List Float) (small : (i : ℕ) → i < 128 → Small (at xs i) × Small (at ws i)) (ys : List ℕ) (products : Products xs ws ys) where
-  pub small-words : (i : ℕ) → i < 128 → SmallWord (get_or ys i 0)
-  small-words i l = subst SmallWord (sym (products.each i l)) (word_small (at xs i) (at ws i) (small i l).0 (small i l).1)
+  pub small_words : (i : ℕ) → i < 128 → SmallWord (get_or ys i 0)
+  small_words i l = subst SmallWord (sym (products.each i l)) (word_small (at xs i) (at ws i) (small i l).0 (small i l).1)
 
   word : (i : ℕ) → i < 128 → get_or ys i unit ≡ product_word (at xs i) (at ws i)
   word i l = within ys i unit 0 (omega (arith, products.as_many)) ∙ products.each i l
@@ -68,8 +68,8 @@ module _ (xs ws : List Float) (small : (i : ℕ) → i < 128 → Small (at xs i)
       few : (v : ℕ) → SmallWord v → D.length (value_of v) ≤ 2 ^ 53
       few v s = omega (arith, s.least, s.most)
 
-  near-words : (n : ℕ) → n < 128 → Close (2 ^ 298) (times (whole (2 ^ 298)) (value_of (get_or ys n unit))) (times (whole (2 ^ 53)) (product xs ws n))
-  near-words n l = rw (word n l) (word-near (at xs n) (at ws n) (small n l).0 (small n l).1)
+  near_words : (n : ℕ) → n < 128 → Close (2 ^ 298) (times (whole (2 ^ 298)) (value_of (get_or ys n unit))) (times (whole (2 ^ 53)) (product xs ws n))
+  near_words n l = rw (word n l) (word_near (at xs n) (at ws n) (small n l).0 (small n l).1)
 
   covers : (n : ℕ) → n < 128 → D.length (product xs ws n) ≤ 2 ^ 298
   covers n l = times-length (units_of (at xs n)) (units_of (at ws n)) (2 ^ 149) (2 ^ 149) (le_trans (le_of_eq (size-sum (at xs n))) (small_size (at xs n) (small n l).0)) (le_trans (le_of_eq (size-sum (at ws n))) (small_size (at ws n) (small n l).1))
@@ -89,22 +89,22 @@ module _ (xs ws : List Float) (small : (i : ℕ) → i < 128 → Small (at xs i)
       pub real_beside : (k : ℕ) → k ≤ 64 → Beside (2 ^ 298 * u) lost (real_size r k) (turned_total (product xs ws) c k)
       real_beside k l =
           let v = get_or r k 0 in
-          subst (λ (z : ℕ). Beside (2 ^ 298 * u) lost z (turned_total (product xs ws) c k)) (real-is r k)
-          (beside (2 ^ 298) u lost (value_of v) (turned_total (product xs ws) c k) (one_sided v) (real-sum (product xs ws) ys (2 ^ 298) near-words c s u (2 ^ 298) turns covers k (value_of v) (block.re k (omega arith))))
+          subst (λ (z : ℕ). Beside (2 ^ 298 * u) lost z (turned_total (product xs ws) c k)) (real_is r k)
+          (beside (2 ^ 298) u lost (value_of v) (turned_total (product xs ws) c k) (one_sided v) (real_sum (product xs ws) ys (2 ^ 298) near_words c s u (2 ^ 298) turns covers k (value_of v) (block.re k (omega arith))))
 
       inner : (k : ℕ) → 1 ≤ k → k < 64 → ¬ (k % 64 ≡ 0) → Beside (2 ^ 298 * u) lost (imaginary_size r k) (turned_total (product xs ws) s k)
       inner k a b n =
           let v = get_or r (128 - k) 0 in
-          subst (λ (z : ℕ). Beside (2 ^ 298 * u) lost z (turned_total (product xs ws) s k)) (add_comm (unit - v) (v - unit) ∙ imaginary-some r k n)
-          (beside (2 ^ 298) u lost (opposite (value_of v)) (turned_total (product xs ws) s k) (turned (one_sided v)) (imaginary-sum (product xs ws) ys (2 ^ 298) near-words c s u (2 ^ 298) turns covers k (opposite (value_of v)) (block.im k a (omega arith))))
+          subst (λ (z : ℕ). Beside (2 ^ 298 * u) lost z (turned_total (product xs ws) s k)) (add_comm (unit - v) (v - unit) ∙ imaginary_some r k n)
+          (beside (2 ^ 298) u lost (opposite (value_of v)) (turned_total (product xs ws) s k) (turned (one_sided v)) (imaginary_sum (product xs ws) ys (2 ^ 298) near_words c s u (2 ^ 298) turns covers k (opposite (value_of v)) (block.im k a (omega arith))))
 
       ends : (k : ℕ) → (k ≡ 0) ⊎ (k ≡ 64) → k % 64 ≡ 0 → Beside (2 ^ 298 * u) lost (imaginary_size r k) (turned_total (product xs ws) s k)
       ends k e z =
-          subst (λ (x : ℕ). Beside (2 ^ 298 * u) lost x (turned_total (product xs ws) s k)) (imaginary-none r k z)
-          (beside (2 ^ 298) u lost (whole 0) (turned_total (product xs ws) s k) (inl refl) (imaginary-sum (product xs ws) ys (2 ^ 298) near-words c s u (2 ^ 298) turns covers k (whole 0) (end_sum (λ i. value_of (get_or ys i unit)) k e)))
+          subst (λ (x : ℕ). Beside (2 ^ 298 * u) lost x (turned_total (product xs ws) s k)) (imaginary_none r k z)
+          (beside (2 ^ 298) u lost (whole 0) (turned_total (product xs ws) s k) (inl refl) (imaginary_sum (product xs ws) ys (2 ^ 298) near_words c s u (2 ^ 298) turns covers k (whole 0) (end_sum (λ i. value_of (get_or ys i unit)) k e)))
 
       pub imaginary_beside : (k : ℕ) → k ≤ 64 → Beside (2 ^ 298 * u) lost (imaginary_size r k) (turned_total (product xs ws) s k)
-      imaginary_beside k l = elim (place k l) [ inl e ↦ ends k e (whole-place k e) | inr (a, b) ↦ inner k a b (no_place a b) ]
+      imaginary_beside k l = elim (place k l) [ inl e ↦ ends k e (whole_place k e) | inr (a, b) ↦ inner k a b (no_place a b) ]
         where
           zero_or : (k : ℕ) → (k ≡ 0) ⊎ (1 ≤ k)
           zero_or zero = inl refl
@@ -116,9 +116,9 @@ module _ (xs ws : List Float) (small : (i : ℕ) → i < 128 → Small (at xs i)
               both : k ≤ 64 → 64 ≤ k → k ≡ 64
               both a b = omega arith
 
-          whole-place : (k : ℕ) → (k ≡ 0) ⊎ (k ≡ 64) → k % 64 ≡ 0
-          whole-place k (inl e) = rw e refl
-          whole-place k (inr e) = rw e refl
+          whole_place : (k : ℕ) → (k ≡ 0) ⊎ (k ≡ 64) → k % 64 ≡ 0
+          whole_place k (inl e) = rw e refl
+          whole_place k (inr e) = rw e refl
 
           no_place : {k : ℕ} → 1 ≤ k → k < 64 → ¬ (k % 64 ≡ 0)
           no_place a b z = omega arith

@@ -23,7 +23,7 @@ use Rattle.path.specs.Path.{lo, hi, quietest, loudest, threshold, comfort, Band,
 use Rattle.path.specs.Louder.{Louder}
 use Rattle.path.proofs.Squares.{squared}
 use Rattle.path.proofs.Adding.{sum_by}
-use Rattle.path.proofs.Ratios.{pow-positive, above, between-most, between-least, between-above, between_either, most_wider, Allows, allows}
+use Rattle.path.proofs.Ratios.{pow_positive, above, between_most, between_least, between-above, between_either, most_wider, Allows, allows}
 
 -- ---- louder samples give larger parts
 module _ (xs xs' ws : List Float) (h : Louder xs xs') where
@@ -144,7 +144,7 @@ exponents b m j i pos octave h = elim (le-or-lt j i) [ inl l ↦ l | inr l ↦ a
     rest l = omega arith
 
     cancelled : (d : ℕ) → j ≡ i + d → m ^ d ≤ b ^ d
-    cancelled d e = le_of_mul-le-mul_left (le_trans (le_of_eq (regroup (m ^ i) (b ^ i) (m ^ d) ∙ ap (λ (x : ℕ). x * b ^ i) (sym (pow-add m i d) ∙ ap (λ (x : ℕ). m ^ x) (sym e)))) (le_trans h (le_of_eq (ap (λ (x : ℕ). x * m ^ i) (ap (λ (x : ℕ). b ^ x) e ∙ pow-add b i d) ∙ regroup' (b ^ i) (b ^ d) (m ^ i))))) (mul-pos (pow-positive (lt_of_lt_of_le pos (doubled octave)) i) (pow-positive pos i))
+    cancelled d e = le_of_mul-le-mul_left (le_trans (le_of_eq (regroup (m ^ i) (b ^ i) (m ^ d) ∙ ap (λ (x : ℕ). x * b ^ i) (sym (pow-add m i d) ∙ ap (λ (x : ℕ). m ^ x) (sym e)))) (le_trans h (le_of_eq (ap (λ (x : ℕ). x * m ^ i) (ap (λ (x : ℕ). b ^ x) e ∙ pow-add b i d) ∙ regroup' (b ^ i) (b ^ d) (m ^ i))))) (mul-pos (pow_positive (lt_of_lt_of_le pos (doubled octave)) i) (pow_positive pos i))
       where
         regroup : (x y z : ℕ) → x * y * z ≡ x * z * y
         regroup x y z = omega arith
@@ -156,7 +156,7 @@ exponents b m j i pos octave h = elim (le-or-lt j i) [ inl l ↦ l | inr l ↦ a
         doubled l = omega arith
 
     wrong : (d : ℕ) → 1 ≤ d → m ^ d ≤ b ^ d → ⊥
-    wrong d l g = less (2 ^ d) (b ^ d) (two d l) (pow-positive pos d) (le_trans (le_of_eq (sym (mul-pow 2 b d))) (le_trans (pow-le-pow_left octave d) g))
+    wrong d l g = less (2 ^ d) (b ^ d) (two d l) (pow_positive pos d) (le_trans (le_of_eq (sym (mul-pow 2 b d))) (le_trans (pow-le-pow_left octave d) g))
       where
         two : (d : ℕ) → 1 ≤ d → 2 ≤ 2 ^ d
         two zero l = absurd (omega arith)
@@ -231,10 +231,10 @@ module _ (top : ℕ) (xs xs' ws : List Float) (bs : List ℕ) (n : ℕ) (is is' 
 
   near : 2 ^ 24 * A ≤ (2 ^ 24 + 42) * A'
   near = elim (le-or-lt m (band_sum ls (lo bs i) (hi bs i))) [
-    | inl g ↦ le_trans (mul-le-mul_left (2 ^ 24) (between-most b m rising _)) (le_trans (more m) (mul-le-mul_left (2 ^ 24 + 42) (loud g)))
+    | inl g ↦ le_trans (mul-le-mul_left (2 ^ 24) (between_most b m rising _)) (le_trans (more m) (mul-le-mul_left (2 ^ 24 + 42) (loud g)))
     | inr g ↦ elim (between_either b m rising (band_sum hs (lo bs i) (hi bs i))) [
-      | inl e ↦ le_trans (mul-le-mul_left (2 ^ 24) (le_trans e (between-least b m rising _))) (more A')
-      | inr e ↦ le_trans (mul-le-mul_left (2 ^ 24) (le_trans e sums)) (spare (band_sum ls (lo bs i) (hi bs i)) A' (between-above b m rising _ g) (le_trans (le_trans (lit≤ tt) long) (between-least b m rising _)))
+      | inl e ↦ le_trans (mul-le-mul_left (2 ^ 24) (le_trans e (between_least b m rising _))) (more A')
+      | inr e ↦ le_trans (mul-le-mul_left (2 ^ 24) (le_trans e sums)) (spare (band_sum ls (lo bs i) (hi bs i)) A' (between-above b m rising _ g) (le_trans (le_trans (lit≤ tt) long) (between_least b m rising _)))
     ]
   ]
     where
@@ -242,7 +242,7 @@ module _ (top : ℕ) (xs xs' ws : List Float) (bs : List ℕ) (n : ℕ) (is is' 
       more x = omega arith
 
       loud : m ≤ band_sum ls (lo bs i) (hi bs i) → m ≤ A'
-      loud g = elim (le-or-lt (band_sum ls (lo bs i) (hi bs i)) b) [ inl w ↦ le_trans g (le_trans w (between-least b m rising _)) | inr w ↦ le_of_eq (sym (above b m _ w g)) ]
+      loud g = elim (le-or-lt (band_sum ls (lo bs i) (hi bs i)) b) [ inl w ↦ le_trans g (le_trans w (between_least b m rising _)) | inr w ↦ le_of_eq (sym (above b m _ w g)) ]
 
       spare : (L a : ℕ) → L ≤ a → 2 ^ 30 ≤ a → 2 ^ 24 * (L + 65) ≤ (2 ^ 24 + 42) * a
       spare L a g k = omega arith
@@ -260,19 +260,19 @@ module _ (top : ℕ) (xs xs' ws : List Float) (bs : List ℕ) (n : ℕ) (is is' 
   j' = 1000000 * (get_or is' i 0 - threshold bs i) + path_error_num top
 
   at_least : RatioAtLeast A b m K j
-  at_least = (call.near ac cosine_below sine_below unit own_table i l).not-above hs (λ k x y. less (root (power xs ws cosine_below sine_below k)).high)
+  at_least = (call.near ac cosine_below sine_below unit own_table i l).not_above hs (λ k x y. less (root (power xs ws cosine_below sine_below k)).high)
     where
       less : {a b : ℕ} → a < b → a ≤ b
       less g = omega arith
 
   at_most : RatioAtMost A b m K (j' + al.e)
-  at_most = most_wider (2 ^ 24 + 42) (2 ^ 24) K al.e b m (pow_pos 24) al.grown octave A A' j' near ((call'.near ac' cosine_below sine_below unit own_table i l).not-below ls (λ k x y. (root (power xs' ws cosine_below sine_below k)).low))
+  at_most = most_wider (2 ^ 24 + 42) (2 ^ 24) K al.e b m (pow_pos 24) al.grown octave A A' j' near ((call'.near ac' cosine_below sine_below unit own_table i l).not_below ls (λ k x y. (root (power xs' ws cosine_below sine_below k)).low))
 
   positive : 0 < b
   positive = lt_of_lt_of_le (pow_pos 200) long
 
   in_order : j ≤ j' + al.e
-  in_order = exponents b m j (j' + al.e) positive octave (joined (b ^ K) (A ^ K) (m ^ j) (b ^ j) (b ^ (j' + al.e)) (m ^ (j' + al.e)) (pow-positive positive K) at_least at_most)
+  in_order = exponents b m j (j' + al.e) positive octave (joined (b ^ K) (A ^ K) (m ^ j) (b ^ j) (b ^ (j' + al.e)) (m ^ (j' + al.e)) (pow_positive positive K) at_least at_most)
     where
       joined : (B A x y z w : ℕ) → 0 < B → B * x ≤ A * y → A * z ≤ B * w → x * z ≤ y * w
       joined B A x y z w pos g k = le_of_mul-le-mul_left (le_trans (le_of_eq (sym (mul_assoc B x z))) (le_trans (mul-le-mul_right z g) (le_trans (le_of_eq (swap A y z)) (le_trans (mul-le-mul_left y k) (le_of_eq (swap' y B w)))))) pos

@@ -17,7 +17,7 @@ use Rattle.spectrum.specs.Words.{value_of, Small as SmallWord}
 use Rattle.spectrum.specs.Transform.{units_of}
 use Rattle.spectrum.specs.Floats.{digits_in, place_in, size_in, size_bits}
 use Rattle.spectrum.proofs.Differences.{Close}
-use Rattle.spectrum.proofs.Sizes.{size_of, size_mono, low-digits, high-digits, low-place}
+use Rattle.spectrum.proofs.Sizes.{size_of, size_mono, low_digits, high_digits, low_place}
 use Rattle.path.specs.Steps.{product_size, product_word}
 use Rattle.path.specs.Ready.{Small}
 
@@ -48,31 +48,31 @@ digits_fit a b l h = le_trans (mul-le-mul (below l) (more h)) (le_of_eq refl)
 
 -- ---- a product by the two patterns: normal factors as they are, and of a subnormal one nothing is left
 module _ (p q : ℕ) (lp : p ≤ 1065353216) (lq : q ≤ 1065353216) where
-  abbrev shifted-digits : ℕ
-  shifted-digits = (p % 8388608 + 8388608) * ((q % 8388608 + 8388608) * 128) / 2 ^ (254 - (p / 8388608 + q / 8388608))
+  abbrev shifted_digits : ℕ
+  shifted_digits = (p % 8388608 + 8388608) * ((q % 8388608 + 8388608) * 128) / 2 ^ (254 - (p / 8388608 + q / 8388608))
 
   abbrev exact : ℕ
   exact = digits_in p * 2 ^ place_in p * (digits_in q * 2 ^ place_in q) * 2 ^ 53 / 2 ^ 298
 
-  pub few-digits : (p % 8388608 + 8388608) * ((q % 8388608 + 8388608) * 128) ≤ 2 ^ 55
-  few-digits = digits_fit (p % 8388608 + 8388608) (q % 8388608 + 8388608) (omega arith) (omega arith)
+  pub few_digits : (p % 8388608 + 8388608) * ((q % 8388608 + 8388608) * 128) ≤ 2 ^ 55
+  few_digits = digits_fit (p % 8388608 + 8388608) (q % 8388608 + 8388608) (omega arith) (omega arith)
 
-  normal : 8388608 ≤ p → 8388608 ≤ q → shifted-digits ≡ exact
+  normal : 8388608 ≤ p → 8388608 ≤ q → shifted_digits ≡ exact
   unfolding place_in
-  normal a b = ap (λ (i : ℕ). (p % 8388608 + 8388608) * ((q % 8388608 + 8388608) * 128) / 2 ^ i) (places a b) ∙ shifted (p % 8388608 + 8388608) (p / 8388608 - 1) (q % 8388608 + 8388608) (q / 8388608 - 1) (omega arith) ∙ ap₂ (λ d e. d * 2 ^ (p / 8388608 - 1) * (e * 2 ^ (q / 8388608 - 1)) * 2 ^ 53 / 2 ^ 298) (sym (high-digits p a)) (sym (high-digits q b))
+  normal a b = ap (λ (i : ℕ). (p % 8388608 + 8388608) * ((q % 8388608 + 8388608) * 128) / 2 ^ i) (places a b) ∙ shifted (p % 8388608 + 8388608) (p / 8388608 - 1) (q % 8388608 + 8388608) (q / 8388608 - 1) (omega arith) ∙ ap₂ (λ d e. d * 2 ^ (p / 8388608 - 1) * (e * 2 ^ (q / 8388608 - 1)) * 2 ^ 53 / 2 ^ 298) (sym (high_digits p a)) (sym (high_digits q b))
     where
       places : 8388608 ≤ p → 8388608 ≤ q → 254 - (p / 8388608 + q / 8388608) ≡ 252 - (p / 8388608 - 1 + (q / 8388608 - 1))
       places a b = omega arith
 
-  none : p / 8388608 + q / 8388608 ≤ 127 → 0 ≡ shifted-digits
-  none l = sym (div-eq_of_lt (lt_of_le_of_lt few-digits (lt_of_lt_of_le (lit< tt) (pow_mono {i = 56} {j = 254 - (p / 8388608 + q / 8388608)} (omega arith)))))
+  none : p / 8388608 + q / 8388608 ≤ 127 → 0 ≡ shifted_digits
+  none l = sym (div-eq_of_lt (lt_of_le_of_lt few_digits (lt_of_lt_of_le (lit< tt) (pow_mono {i = 56} {j = 254 - (p / 8388608 + q / 8388608)} (omega arith)))))
 
   -- a factor below 2 ^ 23 and another of at most 1
   nothing : (x y : ℕ) → x ≤ 2 ^ 23 → y ≤ 2 ^ 149 → 0 ≡ x * y * 2 ^ 53 / 2 ^ 298
   nothing x y a b = sym (div-eq_of_lt (lt_of_le_of_lt (mul-le-mul_right (2 ^ 53) (mul-le-mul a b)) (lit< tt)))
 
-  low-size : (b : ℕ) → b < 8388608 → size_in b ≤ 2 ^ 23
-  low-size b l = le_trans (le_of_eq (ap₂ (λ d k. d * 2 ^ k) (low-digits b l) (low-place b l) ∙ mul-one b)) (less l)
+  low_size : (b : ℕ) → b < 8388608 → size_in b ≤ 2 ^ 23
+  low_size b l = le_trans (le_of_eq (ap₂ (λ d k. d * 2 ^ k) (low_digits b l) (low_place b l) ∙ mul-one b)) (less l)
     where
       less : b < 8388608 → b ≤ 2 ^ 23
       less l = omega arith
@@ -81,30 +81,30 @@ module _ (p q : ℕ) (lp : p ≤ 1065353216) (lq : q ≤ 1065353216) where
   unfolding digits_in place_in
   one_size b l = le_trans (size_mono b 1065353216 l) (le_of_eq refl)
 
-  pub by_patterns : shifted-digits ≡ exact
+  pub by_patterns : shifted_digits ≡ exact
   by_patterns = elim (le-or-lt 8388608 p) [
     | inl a ↦ elim (le-or-lt 8388608 q) [
       | inl b ↦ normal a b
-      | inr b ↦ sym (none (omega arith)) ∙ nothing (size_in q) (size_in p) (low-size q b) (one_size p lp) ∙ ap (λ (n : ℕ). n * 2 ^ 53 / 2 ^ 298) (mul_comm (size_in q) (size_in p))
+      | inr b ↦ sym (none (omega arith)) ∙ nothing (size_in q) (size_in p) (low_size q b) (one_size p lp) ∙ ap (λ (n : ℕ). n * 2 ^ 53 / 2 ^ 298) (mul_comm (size_in q) (size_in p))
     ]
-    | inr a ↦ sym (none (omega arith)) ∙ nothing (size_in p) (size_in q) (low-size p a) (one_size q lq)
+    | inr a ↦ sym (none (omega arith)) ∙ nothing (size_in p) (size_in q) (low_size p a) (one_size q lq)
   ]
 
 -- ---- sizes
-full-scale : size_in 1065353216 ≡ 2 ^ 149
+full_scale : size_in 1065353216 ≡ 2 ^ 149
 unfolding digits_in place_in
-full-scale = refl
+full_scale = refl
 
 pub small_size : (x : Float) → Small x → mag x ≤ 2 ^ 149
-small_size x s = le_trans (le_of_eq (size_of x s.number)) (le_trans (size_mono (size_bits x) 1065353216 s.bits) (le_of_eq full-scale))
+small_size x s = le_trans (le_of_eq (size_of x s.number)) (le_trans (size_mono (size_bits x) 1065353216 s.bits) (le_of_eq full_scale))
 
 pub product-size : (x w : Float) → Small x → Small w → digits_in (size_bits x) * 2 ^ place_in (size_bits x) * (digits_in (size_bits w) * 2 ^ place_in (size_bits w)) * 2 ^ 53 / 2 ^ 298 ≡ product_size x w
 unfolding product_size
 product-size x w sx sw = ap₂ (λ a b. a * b * 2 ^ 53 / 2 ^ 298) (sym (size_of x sx.number)) (sym (size_of w sw.number))
 
-pub product-most : (x w : Float) → Small x → Small w → product_size x w ≤ 2 ^ 53
+pub product_most : (x w : Float) → Small x → Small w → product_size x w ≤ 2 ^ 53
 unfolding product_size
-product-most x w sx sw = le_of_mul-le-mul_right (le_trans (div-mul-le_self (mag x * mag w * 2 ^ 53) (2 ^ 298)) (le_trans (mul-le-mul_right (2 ^ 53) (mul-le-mul (small_size x sx) (small_size w sw))) (le_of_eq same))) (pow_pos 298)
+product_most x w sx sw = le_of_mul-le-mul_right (le_trans (div-mul-le_self (mag x * mag w * 2 ^ 53) (2 ^ 298)) (le_trans (mul-le-mul_right (2 ^ 53) (mul-le-mul (small_size x sx) (small_size w sw))) (le_of_eq same))) (pow_pos 298)
   where
     same : 2 ^ 149 * 2 ^ 149 * 2 ^ 53 ≡ 2 ^ 53 * 2 ^ 298
     same = refl
@@ -135,16 +135,16 @@ set x n l = go (negative x) refl
 
 -- ---- the word
 module _ (x w : Float) where
-  pub word-is : (a b : Bool) → negative x ≡ a → negative w ≡ b → product_word x w ≡ cond a (cond b (unit + product_size x w) (unit - product_size x w)) (cond b (unit - product_size x w) (unit + product_size x w))
+  pub word_is : (a b : Bool) → negative x ≡ a → negative w ≡ b → product_word x w ≡ cond a (cond b (unit + product_size x w) (unit - product_size x w)) (cond b (unit - product_size x w) (unit + product_size x w))
   unfolding product_word
-  word-is a b e f = rw (e, f) refl
+  word_is a b e f = rw (e, f) refl
 
   module _ (sx : Small x) (sw : Small w) where
     pub word_small : SmallWord (product_word x w)
     word_small = go (negative x) (negative w) refl refl
       where
         go : (a b : Bool) → negative x ≡ a → negative w ≡ b → SmallWord (product_word x w)
-        go a b e f = subst SmallWord (sym (word-is a b e f)) (either a b (product_size x w) (product-most x w sx sw))
+        go a b e f = subst SmallWord (sym (word_is a b e f)) (either a b (product_size x w) (product_most x w sx sw))
           where
             either : (a b : Bool) (q : ℕ) → q ≤ 2 ^ 53 → SmallWord (cond a (cond b (unit + q) (unit - q)) (cond b (unit - q) (unit + q)))
             either true true q l = record { least = omega arith; most = omega arith }
@@ -153,9 +153,9 @@ module _ (x w : Float) where
             either false false q l = record { least = omega arith; most = omega arith }
 
     -- cut off by less than a unit
-    pub word-near : Close (2 ^ 298) (times (whole (2 ^ 298)) (value_of (product_word x w))) (times (whole (2 ^ 53)) (times (units_of x) (units_of w)))
+    pub word_near : Close (2 ^ 298) (times (whole (2 ^ 298)) (value_of (product_word x w))) (times (whole (2 ^ 53)) (times (units_of x) (units_of w)))
     unfolding product_size
-    word-near = go (negative x) (negative w) refl refl
+    word_near = go (negative x) (negative w) refl refl
       where
         q : ℕ
         q = product_size x w
@@ -179,7 +179,7 @@ module _ (x w : Float) where
         most = lt-div-mul-add (pow_pos 298)
 
         few : mag x * mag w * 2 ^ 53 / 2 ^ 298 ≤ 2 ^ 53
-        few = product-most x w sx sw
+        few = product_most x w sx sw
 
         Near : Bool → Bool → ℕ → Type 0
         Near a b v = Close (2 ^ 298) (times (whole (2 ^ 298)) (value_of v)) (times (whole (2 ^ 53)) (times (record { plus = cond a 0 (mag x); minus = cond a (mag x) 0 }) (record { plus = cond b 0 (mag w); minus = cond b (mag w) 0 })))
@@ -191,4 +191,4 @@ module _ (x w : Float) where
         cases false false = up (mag x * mag w) (2 ^ 298) (mag x * mag w * 2 ^ 53 / 2 ^ 298) _ (omega arith) (omega arith) least most few
 
         go : (a b : Bool) → negative x ≡ a → negative w ≡ b → Close (2 ^ 298) (times (whole (2 ^ 298)) (value_of (product_word x w))) (times (whole (2 ^ 53)) (times (units_of x) (units_of w)))
-        go a b e f = rw (word-is a b e f, e, f) (cases a b)
+        go a b e f = rw (word_is a b e f, e, f) (cases a b)

@@ -13,7 +13,7 @@ use Rattle.units.specs.Answers.{Ends}
 use Rattle.units.proofs.Answers.{written, untouched}
 use Rattle.units.proofs.Naturals.{le-or-lt}
 use Rattle.units.proofs.Signs.{size-sum}
-use Rattle.units.proofs.Patterns.{finite-below}
+use Rattle.units.proofs.Patterns.{finite_below}
 use Rattle.spectrum.specs.Difference.{Difference, times, size}
 use Rattle.spectrum.specs.Table.{unit, cosine_below, sine_below}
 use Rattle.spectrum.specs.Words.{FilledWith}
@@ -48,7 +48,7 @@ pub sample_of : (x : Float) → Small x → Sample x
 sample_of x h = record { number = h.number; small = small_size x h }
 
 pub small_by : (x : Float) → T (fits binary32 x) → size_bits x ≤ 1065353216 → Small x
-small_by x f l = record { number = finite-below x f (omega arith); bits = l }
+small_by x f l = record { number = finite_below x f (omega arith); bits = l }
 
 -- a largest pattern above that of 1 is that of no sample
 pub too_large : (xs : List Float) (m : ℕ) → Largest xs 128 m → 1065353216 < m → ¬ ((i : ℕ) → i < 128 → Sample (at xs i))

@@ -17,8 +17,8 @@ use Rattle.loudness.proofs.Promise.{promised}
 use Rattle.path.specs.Path.{between, path_error_num}
 
 -- powers of a number above zero
-pub pow-positive : {n : ℕ} → 0 < n → (k : ℕ) → 0 < n ^ k
-pow-positive {n} p k = lt_of_lt_of_le (pow_pos 0) (le_trans (le_of_eq (sym (one-pow k))) (pow-le-pow_left p k))
+pub pow_positive : {n : ℕ} → 0 < n → (k : ℕ) → 0 < n ^ k
+pow_positive {n} p k = lt_of_lt_of_le (pow_pos 0) (le_trans (le_of_eq (sym (one-pow k))) (pow-le-pow_left p k))
   where
     one-pow : (k : ℕ) → 1 ^ k ≡ 1
     one-pow zero = refl
@@ -41,14 +41,14 @@ module _ (b m : ℕ) (rising : b ≤ m) (a : ℕ) where
     | inr l ↦ elim (le-or-lt m a) [ inl h ↦ subst Q (sym (above b m a l h)) (high l h) | inr h ↦ subst Q (sym (inside b m a l h)) (mid l h) ]
   ]
 
-  pub between-most : between b m a ≤ m
-  between-most = by_place (λ x. x ≤ m) (λ l. rising) (λ l h. le_refl m) (λ l h. less h)
+  pub between_most : between b m a ≤ m
+  between_most = by_place (λ x. x ≤ m) (λ l. rising) (λ l h. le_refl m) (λ l h. less h)
     where
       less : a < m → a ≤ m
       less h = omega arith
 
-  pub between-least : b ≤ between b m a
-  between-least = by_place (λ x. b ≤ x) (λ l. le_refl b) (λ l h. rising) (λ l h. less l)
+  pub between_least : b ≤ between b m a
+  between_least = by_place (λ x. b ≤ x) (λ l. le_refl b) (λ l h. rising) (λ l h. less l)
     where
       less : b < a → b ≤ a
       less l = omega arith
@@ -73,8 +73,8 @@ module _ (b m K : ℕ) (rising : b ≤ m) where
       swap : (x y z : ℕ) → x * (y * z) ≡ y * (x * z)
       swap x y z = omega arith
 
-  at-top-least : (x y : ℕ) → K ≡ x + y → RatioAtLeast m b m K x
-  at-top-least x y e = rw e (le_trans (le_of_eq (ap (λ (z : ℕ). z * m ^ x) (pow-add b x y))) (le_trans (le_of_eq (swap (b ^ x) (b ^ y) (m ^ x))) (le_trans (mul-le-mul_left (b ^ x * m ^ x) (pow-le-pow_left rising y)) (le_of_eq (swap' (b ^ x) (m ^ x) (m ^ y) ∙ ap (λ (z : ℕ). z * b ^ x) (sym (pow-add m x y)))))))
+  at_top_least : (x y : ℕ) → K ≡ x + y → RatioAtLeast m b m K x
+  at_top_least x y e = rw e (le_trans (le_of_eq (ap (λ (z : ℕ). z * m ^ x) (pow-add b x y))) (le_trans (le_of_eq (swap (b ^ x) (b ^ y) (m ^ x))) (le_trans (mul-le-mul_left (b ^ x * m ^ x) (pow-le-pow_left rising y)) (le_of_eq (swap' (b ^ x) (m ^ x) (m ^ y) ∙ ap (λ (z : ℕ). z * b ^ x) (sym (pow-add m x y)))))))
     where
       swap : (p q r : ℕ) → p * q * r ≡ p * r * q
       swap p q r = omega arith
@@ -98,8 +98,8 @@ module _ (top : ℕ) (b m : Float) (t c : ℕ) (ch : Channel top b m t c) (a : F
   starred = elim (le-or-lt (P a) (P b)) [
     | inl l ↦ rw (below (P b) (P m) (P a) l, law.quiet ch e l) (record { most = at_bottom (P b) (P m) _ rising _; least = rw (nothing t (map_error_num top)) (le_of_eq (ap (λ (x : ℕ). P b ^ (1000000 * (c - t)) * x) (pow-zero (P m) ∙ sym (pow-zero (P b))))) })
     | inr l ↦ elim (le-or-lt (P m) (P a)) [
-      | inl h ↦ rw (above (P b) (P m) (P a) l h, law.loud ch e h) (record { most = at_top (P b) (P m) _ rising (map_error_num top); least = at-top-least (P b) (P m) _ rising _ _ (split (1000000 * (c - t)) (map_error_num top)) })
-      | inr h ↦ rw (inside (P b) (P m) (P a) l h) (let n = law.near ch e l h in record { most = n.not-below; least = n.not-above })
+      | inl h ↦ rw (above (P b) (P m) (P a) l h, law.loud ch e h) (record { most = at_top (P b) (P m) _ rising (map_error_num top); least = at_top_least (P b) (P m) _ rising _ _ (split (1000000 * (c - t)) (map_error_num top)) })
+      | inr h ↦ rw (inside (P b) (P m) (P a) l h) (let n = law.near ch e l h in record { most = n.not_below; least = n.not_above })
     ]
   ]
     where
@@ -110,14 +110,14 @@ module _ (top : ℕ) (b m : Float) (t c : ℕ) (ch : Channel top b m t c) (a : F
       split K n = omega arith
 
 -- ---- in other units
-pub scaled-most : (a b m k j f : ℕ) → RatioAtMost a b m k j → RatioAtMost (a * f) (b * f) (m * f) k j
-scaled-most a b m k j f h = rw (mul-pow a f k, mul-pow b f j, mul-pow b f k, mul-pow m f j) (le_trans (le_of_eq (regroup (a ^ k) (f ^ k) (b ^ j) (f ^ j))) (le_trans (mul-le-mul_right (f ^ k * f ^ j) h) (le_of_eq (sym (regroup (b ^ k) (f ^ k) (m ^ j) (f ^ j))))))
+pub scaled_most : (a b m k j f : ℕ) → RatioAtMost a b m k j → RatioAtMost (a * f) (b * f) (m * f) k j
+scaled_most a b m k j f h = rw (mul-pow a f k, mul-pow b f j, mul-pow b f k, mul-pow m f j) (le_trans (le_of_eq (regroup (a ^ k) (f ^ k) (b ^ j) (f ^ j))) (le_trans (mul-le-mul_right (f ^ k * f ^ j) h) (le_of_eq (sym (regroup (b ^ k) (f ^ k) (m ^ j) (f ^ j))))))
   where
     regroup : (p q r s : ℕ) → p * q * (r * s) ≡ p * r * (q * s)
     regroup p q r s = omega arith
 
-pub scaled-least : (a b m k j f : ℕ) → RatioAtLeast a b m k j → RatioAtLeast (a * f) (b * f) (m * f) k j
-scaled-least a b m k j f h = rw (mul-pow b f k, mul-pow m f j, mul-pow a f k, mul-pow b f j) (le_trans (le_of_eq (regroup (b ^ k) (f ^ k) (m ^ j) (f ^ j))) (le_trans (mul-le-mul_right (f ^ k * f ^ j) h) (le_of_eq (sym (regroup (a ^ k) (f ^ k) (b ^ j) (f ^ j))))))
+pub scaled_least : (a b m k j f : ℕ) → RatioAtLeast a b m k j → RatioAtLeast (a * f) (b * f) (m * f) k j
+scaled_least a b m k j f h = rw (mul-pow b f k, mul-pow m f j, mul-pow a f k, mul-pow b f j) (le_trans (le_of_eq (regroup (b ^ k) (f ^ k) (m ^ j) (f ^ j))) (le_trans (mul-le-mul_right (f ^ k * f ^ j) h) (le_of_eq (sym (regroup (a ^ k) (f ^ k) (b ^ j) (f ^ j))))))
   where
     regroup : (p q r s : ℕ) → p * q * (r * s) ≡ p * r * (q * s)
     regroup p q r s = omega arith
@@ -126,7 +126,7 @@ scaled-least a b m k j f h = rw (mul-pow b f k, mul-pow m f j, mul-pow a f k, mu
 module _ (x y K e B M : ℕ) (some : 0 < y) (grows : x ^ K ≤ y ^ K * 2 ^ e) (octave : 2 * B ≤ M) where
   -- its power is at most 2 ^ e times as large
   moved : (p q : ℕ) → y * p ≤ x * q → p ^ K ≤ 2 ^ e * q ^ K
-  moved p q h = le_of_mul-le-mul_left (le_trans (le_of_eq (sym (mul-pow y p K))) (le_trans (pow-le-pow_left h K) (le_trans (le_of_eq (mul-pow x q K)) (le_trans (mul-le-mul_right (q ^ K) grows) (le_of_eq (mul_assoc (y ^ K) (2 ^ e) (q ^ K))))))) (pow-positive some K)
+  moved p q h = le_of_mul-le-mul_left (le_trans (le_of_eq (sym (mul-pow y p K))) (le_trans (pow-le-pow_left h K) (le_trans (le_of_eq (mul-pow x q K)) (le_trans (mul-le-mul_right (q ^ K) grows) (le_of_eq (mul_assoc (y ^ K) (2 ^ e) (q ^ K))))))) (pow_positive some K)
 
   doubled : 2 ^ e * B ^ e ≤ M ^ e
   doubled = le_trans (le_of_eq (sym (mul-pow 2 B e))) (pow-le-pow_left octave e)
@@ -148,7 +148,7 @@ module _ (x y K e B M : ℕ) (some : 0 < y) (grows : x ^ K ≤ y ^ K * 2 ^ e) (o
       (le_trans (rw (pow-add B j e, pow-add M j e) at r)
       (le_trans (mul-le-mul_right (B ^ j * B ^ e) (moved a A h))
       (le_trans (le_of_eq (regroup (2 ^ e) (A ^ K) (B ^ j) (B ^ e))) (mul-le-mul_left (A ^ K * B ^ j) doubled)))))
-      (pow-positive pos e)
+      (pow_positive pos e)
     where
       regroup : (t p q s : ℕ) → t * p * (q * s) ≡ p * q * (t * s)
       regroup t p q s = omega arith
@@ -181,7 +181,7 @@ grows K q l = go (2 ^ 24 + 42) (2 ^ 24) (lit≤ tt) (pow_pos 24) once
         (le_trans (le_of_eq (sym (pow-add x K (276000 * q - K)) ∙ ap (λ (n : ℕ). x ^ n) whole ∙ pow-mul x 276000 q))
         (le_trans (pow-le-pow_left h q)
         (le_of_eq (mul-pow (y ^ 276000) 2 q ∙ ap (λ (z : ℕ). z * 2 ^ q) (sym (pow-mul y 276000 q) ∙ ap (λ (n : ℕ). y ^ n) (sym whole) ∙ pow-add y K (276000 * q - K)) ∙ swap (y ^ K) (y ^ (276000 * q - K)) (2 ^ q))))))
-        (pow-positive some (276000 * q - K))
+        (pow_positive some (276000 * q - K))
       where
         whole : K + (276000 * q - K) ≡ 276000 * q
         whole = omega arith

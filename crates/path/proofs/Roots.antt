@@ -11,7 +11,7 @@ use lib.Pow.{pow_pos}
 use Rattle.units.proofs.Naturals.{le-or-lt}
 use Rattle.fixed.proofs.Rounding.{placed}
 use Rattle.roots.specs.Value.{IsNear}
-use Rattle.roots.proofs.SquareRoot.{near-root}
+use Rattle.roots.proofs.SquareRoot.{near_root_lem}
 use Rattle.spectrum.specs.Transform.{square}
 use Rattle.path.specs.Steps.{larger, squares, rooted, Rooted, modulus_of, Modulus}
 use Rattle.path.proofs.Squares.{squared}
@@ -97,8 +97,8 @@ module _ (re im Z W Q T a c n s r : ℕ) (pos : 0 < Z) (wide : 2 ^ 14 ≤ W) (wh
         fourth h = omega arith
 
 -- ---- the root's own size
-pub root-long : (n s : ℕ) → 2 ^ 46 ≤ n → IsNear n s → 2 ^ 23 ≤ s
-root-long n s l h = elim (le-or-lt (2 ^ 23) s) [ inl g ↦ g | inr g ↦ absurd (short h.half_above (mul-le-mul (below g) (below g)) (below g)) ]
+pub root_long : (n s : ℕ) → 2 ^ 46 ≤ n → IsNear n s → 2 ^ 23 ≤ s
+root_long n s l h = elim (le-or-lt (2 ^ 23) s) [ inl g ↦ g | inr g ↦ absurd (short h.half_above (mul-le-mul (below g) (below g)) (below g)) ]
   where
     below : s < 2 ^ 23 → s ≤ 2 ^ 23 - 1
     below g = omega arith
@@ -106,8 +106,8 @@ root-long n s l h = elim (le-or-lt (2 ^ 23) s) [ inl g ↦ g | inr g ↦ absurd 
     short : n ≤ s * s + s → s * s ≤ (2 ^ 23 - 1) * (2 ^ 23 - 1) → s ≤ 2 ^ 23 - 1 → ⊥
     short a b c = omega arith
 
-pub root-few : (n s : ℕ) → n < 2 ^ 48 → IsNear n s → s ≤ 2 ^ 24
-root-few n s l h = elim (le-or-lt s (2 ^ 24)) [ inl g ↦ g | inr g ↦ absurd (long g h.half_below (mul-le-mul_left s g)) ]
+pub root_few : (n s : ℕ) → n < 2 ^ 48 → IsNear n s → s ≤ 2 ^ 24
+root_few n s l h = elim (le-or-lt s (2 ^ 24)) [ inl g ↦ g | inr g ↦ absurd (long g h.half_below (mul-le-mul_left s g)) ]
   where
     long : 2 ^ 24 < s → s * s < n + s → s * suc (2 ^ 24) ≤ s * s → ⊥
     long g a b = omega arith
@@ -210,7 +210,7 @@ module _ {re im z : ℕ} (h : Shown re im z) where
 -- ---- the two ways to take it
 module _ (n z s W Q T : ℕ) (wide : 2 ^ 14 ≤ W) (whole : Q * Q ≡ 2 ^ 66 * W) (eighth : 8 * T ≡ Q) (few : T ≤ 2 ^ 38) (least : 2 ^ 46 ≤ n / W) (most : n / W < 2 ^ 48) (near : IsNear (n / W) s) where
   pub uncut : s * T % 2 ^ 64 ≡ s * T
-  uncut = mod-eq_of_lt (lt_of_le_of_lt (mul-le-mul (root-few (n / W) s most near) few) (lit< tt))
+  uncut = mod-eq_of_lt (lt_of_le_of_lt (mul-le-mul (root_few (n / W) s most near) few) (lit< tt))
 
   pub found : Rooted n z (s * T % 2 ^ 64 / 2 ^ z)
   found = rw uncut (record {
@@ -222,7 +222,7 @@ module _ (n z s W Q T : ℕ) (wide : 2 ^ 14 ≤ W) (whole : Q * Q ≡ 2 ^ 66 * W
     wide = wide;
     whole = whole;
     eighth = eighth;
-    long = root-long (n / W) s least near;
+    long = root_long (n / W) s least near;
     above = lt_of_lt_of_le (lt-div-mul-add (positive wide)) (le_of_eq (suc-times (n / W) W));
     below = div-mul-le_self n W;
     near = near;
@@ -240,9 +240,9 @@ module _ (n z s W Q T : ℕ) (wide : 2 ^ 14 ≤ W) (whole : Q * Q ≡ 2 ^ 66 * W
       less l = omega arith
 
 module _ (n z s : ℕ) where
-  pub rooted-high : 2 ^ 62 ≤ n → n < 2 ^ 63 → IsNear (n / 65536) s → (s * 2 ^ 38 % 2 ^ 64 / 2 ^ z ≡ rooted n z) × Rooted n z (s * 2 ^ 38 % 2 ^ 64 / 2 ^ z)
+  pub rooted_high : 2 ^ 62 ≤ n → n < 2 ^ 63 → IsNear (n / 65536) s → (s * 2 ^ 38 % 2 ^ 64 / 2 ^ z ≡ rooted n z) × Rooted n z (s * 2 ^ 38 % 2 ^ 64 / 2 ^ z)
   unfolding rooted
-  rooted-high l h near = (rw (le-leb (2 ^ 62) n l, uncut n z s 65536 (2 ^ 41) (2 ^ 38) (lit≤ tt) refl refl (lit≤ tt) low up near, near-root (n / 65536) s (two (root-long (n / 65536) s low near)) near) refl, found n z s 65536 (2 ^ 41) (2 ^ 38) (lit≤ tt) refl refl (lit≤ tt) low up near)
+  rooted_high l h near = (rw (le-leb (2 ^ 62) n l, uncut n z s 65536 (2 ^ 41) (2 ^ 38) (lit≤ tt) refl refl (lit≤ tt) low up near, near_root_lem (n / 65536) s (two (root_long (n / 65536) s low near)) near) refl, found n z s 65536 (2 ^ 41) (2 ^ 38) (lit≤ tt) refl refl (lit≤ tt) low up near)
     where
       low : 2 ^ 46 ≤ n / 65536
       low = omega arith
@@ -253,9 +253,9 @@ module _ (n z s : ℕ) where
       two : 2 ^ 23 ≤ s → 1 < s
       two g = omega arith
 
-  pub rooted-low : 2 ^ 60 ≤ n → n < 2 ^ 62 → IsNear (n / 16384) s → (s * 2 ^ 37 % 2 ^ 64 / 2 ^ z ≡ rooted n z) × Rooted n z (s * 2 ^ 37 % 2 ^ 64 / 2 ^ z)
+  pub rooted_low : 2 ^ 60 ≤ n → n < 2 ^ 62 → IsNear (n / 16384) s → (s * 2 ^ 37 % 2 ^ 64 / 2 ^ z ≡ rooted n z) × Rooted n z (s * 2 ^ 37 % 2 ^ 64 / 2 ^ z)
   unfolding rooted
-  rooted-low l h near = (rw (lt-leb (2 ^ 62) n h, uncut n z s 16384 (2 ^ 40) (2 ^ 37) (lit≤ tt) refl refl (lit≤ tt) low up near, near-root (n / 16384) s (two (root-long (n / 16384) s low near)) near) refl, found n z s 16384 (2 ^ 40) (2 ^ 37) (lit≤ tt) refl refl (lit≤ tt) low up near)
+  rooted_low l h near = (rw (lt-leb (2 ^ 62) n h, uncut n z s 16384 (2 ^ 40) (2 ^ 37) (lit≤ tt) refl refl (lit≤ tt) low up near, near_root_lem (n / 16384) s (two (root_long (n / 16384) s low near)) near) refl, found n z s 16384 (2 ^ 40) (2 ^ 37) (lit≤ tt) refl refl (lit≤ tt) low up near)
     where
       low : 2 ^ 46 ≤ n / 16384
       low = omega arith
@@ -267,16 +267,16 @@ module _ (n z s : ℕ) where
       two g = omega arith
 
 -- ---- the modulus: of nothing it is nothing
-larger-real : (re im : ℕ) → larger re im ≡ 0 → re ≡ 0
+larger_real : (re im : ℕ) → larger re im ≡ 0 → re ≡ 0
 unfolding larger
-larger-real re im h = elim (le-or-lt im re) [ inl l ↦ rw (le-ltb re im l) at h | inr l ↦ absurd (under l (rw (lt-ltb re im l) at h)) ]
+larger_real re im h = elim (le-or-lt im re) [ inl l ↦ rw (le-ltb re im l) at h | inr l ↦ absurd (under l (rw (lt-ltb re im l) at h)) ]
   where
     under : re < im → im ≡ 0 → ⊥
     under l g = omega arith
 
-larger-imaginary : (re im : ℕ) → larger re im ≡ 0 → im ≡ 0
+larger_imaginary : (re im : ℕ) → larger re im ≡ 0 → im ≡ 0
 unfolding larger
-larger-imaginary re im h = elim (le-or-lt im re) [ inl l ↦ less l (rw (le-ltb re im l) at h) | inr l ↦ absurd (under l (rw (lt-ltb re im l) at h)) ]
+larger_imaginary re im h = elim (le-or-lt im re) [ inl l ↦ less l (rw (le-ltb re im l) at h) | inr l ↦ absurd (under l (rw (lt-ltb re im l) at h)) ]
   where
     less : im ≤ re → re ≡ 0 → im ≡ 0
     less l g = omega arith
@@ -286,7 +286,7 @@ larger-imaginary re im h = elim (le-or-lt im re) [ inl l ↦ less l (rw (le-ltb 
 
 pub modulus_none : (re im m : ℕ) → m ≡ larger re im → m ≡ 0 → (0 ≡ modulus_of re im) × Modulus re im 0
 unfolding modulus_of
-modulus_none re im m e z = (rw (eq-eqb (larger re im) 0 (sym e ∙ z)) refl, both (larger-real re im (sym e ∙ z)) (larger-imaginary re im (sym e ∙ z)))
+modulus_none re im m e z = (rw (eq-eqb (larger re im) 0 (sym e ∙ z)) refl, both (larger_real re im (sym e ∙ z)) (larger_imaginary re im (sym e ∙ z)))
   where
     both : re ≡ 0 → im ≡ 0 → Modulus re im 0
     both a b = rw (a, b) (record { low = lit≤ tt; high = lit≤ tt; few = zero-le })

@@ -89,8 +89,8 @@ between b m a = cond (leb a b) b (cond (leb m a) m a)
 -- the current i is within num / den of the exact map's t + (c - t) log (a / b) / log (m / b), a between b and m: the map of every number below the
 -- sum of the |X_k| is at most i + num / den, and that of every number above it is at least i - num / den
 pub record NearPath (num den : ℕ) (power : ℕ → ℕ) (low high b m t c i : ℕ) : Type 0 where
-  pub not-below : (l : ℕ → ℕ) → ((k : ℕ) → low ≤ k → k ≤ high → square (l k) ≤ power k) → RatioAtMost (between b m (band_sum l low high)) b m (den * (c - t)) (den * (i - t) + num)
-  pub not-above : (h : ℕ → ℕ) → ((k : ℕ) → low ≤ k → k ≤ high → power k ≤ square (h k)) → RatioAtLeast (between b m (band_sum h low high)) b m (den * (c - t)) (den * (i - t) - num)
+  pub not_below : (l : ℕ → ℕ) → ((k : ℕ) → low ≤ k → k ≤ high → square (l k) ≤ power k) → RatioAtMost (between b m (band_sum l low high)) b m (den * (c - t)) (den * (i - t) + num)
+  pub not_above : (h : ℕ → ℕ) → ((k : ℕ) → low ≤ k → k ≤ high → power k ≤ square (h k)) → RatioAtLeast (between b m (band_sum h low high)) b m (den * (c - t)) (den * (i - t) - num)
 
 -- the proved constant: 0.501 of a step where top is at most 255, 0.504 up to 1,023. Asked: 0.51
 abbrev pub path_error_num : ℕ → ℕ

@@ -10,8 +10,8 @@ use Rattle.gaps.specs.Apart.{OffMiddles, Rising, Falling}
 use Rattle.powers.specs.Exp2.{Accepts}
 use Rattle.powers.specs.Raised.{raised}
 use Rattle.powers.specs.Value.{cut_of, open_lower, open_upper, is_left_open, fraction_of}
-use Rattle.powers.proofs.Method.{D, raised-zero, raised_mono, raised-top, raised-near-one, raised-near-two}
-use Rattle.powers.proofs.Places.{Placed, placed, places-from, in_cut, cut_plus, cut_minus, fraction_plus, fraction_minus, minus-room}
+use Rattle.powers.proofs.Method.{D, raised-zero, raised_mono, raised_top, raised_near_one, raised_near_two}
+use Rattle.powers.proofs.Places.{Placed, placed, places_from, in_cut, cut_plus, cut_minus, fraction_plus, fraction_minus, minus_room}
 
 -- ---- the fraction of what is open
 
@@ -30,10 +30,10 @@ open_fraction f small opened = (elim (le-or-lt f 256) [ inl h ↦ absurd (low h)
     near = leb-true ((raised f + 256 + open_lower) % 512) (open_lower + open_upper) opened
 
     low : f ≤ 256 → ⊥
-    low h = away_one (raised f) (le_trans (le_of_eq (sym raised-zero)) (raised_mono (omega arith))) (le_trans (raised_mono h) raised-near-one) near
+    low h = away_one (raised f) (le_trans (le_of_eq (sym raised-zero)) (raised_mono (omega arith))) (le_trans (raised_mono h) raised_near_one) near
 
     high : D - 128 ≤ f → ⊥
-    high h = away_two (raised f) (le_trans raised-near-two (more (raised_mono h))) (raised-top f small) near
+    high h = away_two (raised f) (le_trans raised_near_two (more (raised_mono h))) (raised_top f small) near
       where
         more : {a b : ℕ} → a ≤ b → a + 253 ≤ b + 253
         more l = omega arith
@@ -121,15 +121,15 @@ less falling m j least digits low high = record {
 plus_parts : (w : ℕ) → (126 * 2 ^ 32 + w / 2 ^ 32) / 2 ^ 32 * 2 ^ 64 + (126 * 2 ^ 64 + w) % 2 ^ 64 ≡ 126 * 2 ^ 64 + w
 plus_parts w = omega arith
 
-plus-above : (w : ℕ) → 0 < (126 * 2 ^ 32 + w / 2 ^ 32) % 2 ^ 32 → 0 < (126 * 2 ^ 64 + w) % 2 ^ 64
-plus-above w h = omega arith
+plus_above : (w : ℕ) → 0 < (126 * 2 ^ 32 + w / 2 ^ 32) % 2 ^ 32 → 0 < (126 * 2 ^ 64 + w) % 2 ^ 64
+plus_above w h = omega arith
 
 -- below zero: where the cut is no whole number, both have one whole part
 minus_parts : (w : ℕ) → w ≤ 126 * 2 ^ 64 → 0 < (126 * 2 ^ 32 - w / 2 ^ 32) % 2 ^ 32 → (126 * 2 ^ 32 - w / 2 ^ 32) / 2 ^ 32 * 2 ^ 64 + (126 * 2 ^ 64 - w) % 2 ^ 64 + w ≡ 126 * 2 ^ 64
 minus_parts w l h = omega arith
 
-minus-above : (w : ℕ) → w ≤ 126 * 2 ^ 64 → 0 < (126 * 2 ^ 32 - w / 2 ^ 32) % 2 ^ 32 → 0 < (126 * 2 ^ 64 - w) % 2 ^ 64
-minus-above w l h = omega arith
+minus_above : (w : ℕ) → w ≤ 126 * 2 ^ 64 → 0 < (126 * 2 ^ 32 - w / 2 ^ 32) % 2 ^ 32 → 0 < (126 * 2 ^ 64 - w) % 2 ^ 64
+minus_above w l h = omega arith
 
 -- a multiple of 2 ^ 40 has one as its remainder
 plus_multiple : (c : ℕ) → (126 * 2 ^ 64 + c * 2 ^ 40) % 2 ^ 64 ≡ c % 2 ^ 24 * 2 ^ 40
@@ -139,18 +139,18 @@ minus_multiple : (c : ℕ) → c * 2 ^ 40 ≤ 126 * 2 ^ 64 → (126 * 2 ^ 64 - c
 minus_multiple c h = omega arith
 
 -- w = m 2 ^ j from 2 ^ 40 on is such a multiple
-whole-places : (m j : ℕ) → 40 ≤ j → m * 2 ^ j ≡ m * 2 ^ (j - 40) * 2 ^ 40
-whole-places m j h = ap (λ (n : ℕ). m * n) (pow_split 40 j h) ∙ sym (mul_assoc m (2 ^ (j - 40)) (2 ^ 40))
+whole_places : (m j : ℕ) → 40 ≤ j → m * 2 ^ j ≡ m * 2 ^ (j - 40) * 2 ^ 40
+whole_places m j h = ap (λ (n : ℕ). m * n) (pow_split 40 j h) ∙ sym (mul_assoc m (2 ^ (j - 40)) (2 ^ 40))
 
 -- below it has few digits
-few-places : (m j n : ℕ) → m < 2 ^ 24 → j ≤ n → m * 2 ^ j < 2 ^ (24 + n)
-few-places m j n digits h = lt_of_lt_of_le (mul-lt-mul_of_pos_right digits (pow_pos j)) (le_trans (mul-le-mul_left (2 ^ 24) (pow_mono h)) (le_of_eq (sym (pow-add 2 24 n))))
+few_places : (m j n : ℕ) → m < 2 ^ 24 → j ≤ n → m * 2 ^ j < 2 ^ (24 + n)
+few_places m j n digits h = lt_of_lt_of_le (mul-lt-mul_of_pos_right digits (pow_pos j)) (le_trans (mul-le-mul_left (2 ^ 24) (pow_mono h)) (le_of_eq (sym (pow-add 2 24 n))))
 
-small-plus : (w : ℕ) → w < 2 ^ 64 → (126 * 2 ^ 64 + w) % 2 ^ 64 ≡ w
-small-plus w h = omega arith
+small_plus : (w : ℕ) → w < 2 ^ 64 → (126 * 2 ^ 64 + w) % 2 ^ 64 ≡ w
+small_plus w h = omega arith
 
-small-minus : (w : ℕ) → 0 < w → w < 2 ^ 64 → (126 * 2 ^ 64 - w) % 2 ^ 64 ≡ 2 ^ 64 - w
-small-minus w l h = omega arith
+small_minus : (w : ℕ) → 0 < w → w < 2 ^ 64 → (126 * 2 ^ 64 - w) % 2 ^ 64 ≡ 2 ^ 64 - w
+small_minus w l h = omega arith
 
 -- what is above zero with a factor is so without
 factor : (u : ℕ) → 0 < u * 2 ^ 40 → 0 < u
@@ -162,17 +162,17 @@ module _ (m j : ℕ) (least : 2 ^ 23 ≤ m) (digits : m < 2 ^ 24) where
 
   plus_point : Rising → 17 ≤ j → 0 < (126 * 2 ^ 64 + w) % 2 ^ 64 → Point ((126 * 2 ^ 64 + w) % 2 ^ 64)
   plus_point rising low above = elim (le-or-lt j 40) [
-    | inl h ↦ subst Point (sym (small-plus w (few-places m j 40 digits h))) (itself rising m j least digits low h)
+    | inl h ↦ subst Point (sym (small_plus w (few_places m j 40 digits h))) (itself rising m j least digits low h)
     | inr h ↦
-        let e : (126 * 2 ^ 64 + w) % 2 ^ 64 ≡ m * 2 ^ (j - 40) % 2 ^ 24 * 2 ^ 40 = ap (λ (n : ℕ). (126 * 2 ^ 64 + n) % 2 ^ 64) (whole-places m j (le_of_lt h)) ∙ plus_multiple (m * 2 ^ (j - 40)) in
+        let e : (126 * 2 ^ 64 + w) % 2 ^ 64 ≡ m * 2 ^ (j - 40) % 2 ^ 24 * 2 ^ 40 = ap (λ (n : ℕ). (126 * 2 ^ 64 + n) % 2 ^ 64) (whole_places m j (le_of_lt h)) ∙ plus_multiple (m * 2 ^ (j - 40)) in
         subst Point (sym e) (multiple rising (m * 2 ^ (j - 40) % 2 ^ 24) (factor _ (lt_of_lt_of_le above (le_of_eq e))) (omega arith))
   ]
 
   minus_point : Rising → Falling → 16 ≤ j → w ≤ 126 * 2 ^ 64 → 0 < (126 * 2 ^ 64 - w) % 2 ^ 64 → Point ((126 * 2 ^ 64 - w) % 2 ^ 64)
   minus_point rising falling low room above = elim (le-or-lt j 39) [
-    | inl h ↦ subst Point (sym (small-minus w (mul-pos (lt_of_lt_of_le (lit< tt) least) (pow_pos j)) (lt_of_lt_of_le (few-places m j 39 digits h) (lit≤ tt)))) (less falling m j least digits low h)
+    | inl h ↦ subst Point (sym (small_minus w (mul-pos (lt_of_lt_of_le (lit< tt) least) (pow_pos j)) (lt_of_lt_of_le (few_places m j 39 digits h) (lit≤ tt)))) (less falling m j least digits low h)
     | inr h ↦
-        let s = whole-places m j h in
+        let s = whole_places m j h in
         let c = m * 2 ^ (j - 40) in
         let e : (126 * 2 ^ 64 - w) % 2 ^ 64 ≡ (126 * 2 ^ 24 - c) % 2 ^ 24 * 2 ^ 40 = ap (λ (n : ℕ). (126 * 2 ^ 64 - n) % 2 ^ 64) s ∙ minus_multiple c (le_trans (le_of_eq (sym s)) room) in
         subst Point (sym e) (multiple rising ((126 * 2 ^ 24 - c) % 2 ^ 24) (factor _ (lt_of_lt_of_le above (le_of_eq e))) (omega arith))
@@ -187,11 +187,11 @@ minus_units : (g v t c w u p n : ℕ) → g * v + t + w ≡ c → p ≡ 0 → n 
 minus_units g v t c w u p n e z i = omega (arith, ap (λ (a : ℕ). a * u) e)
 
 -- fewer steps than 2 ^ 8, or 2 ^ 7, are no fraction of what is open
-plus-few : (s : ℕ) → s < 256 → 256 < (126 * 2 ^ 32 + s) % 2 ^ 32 → ⊥
-plus-few s h l = omega arith
+plus_few : (s : ℕ) → s < 256 → 256 < (126 * 2 ^ 32 + s) % 2 ^ 32 → ⊥
+plus_few s h l = omega arith
 
-minus-few : (s : ℕ) → s < 128 → 256 < (126 * 2 ^ 32 - s) % 2 ^ 32 → (126 * 2 ^ 32 - s) % 2 ^ 32 < D - 128 → ⊥
-minus-few s h l k = omega arith
+minus_few : (s : ℕ) → s < 128 → 256 < (126 * 2 ^ 32 - s) % 2 ^ 32 → (126 * 2 ^ 32 - s) % 2 ^ 32 < D - 128 → ⊥
+minus_few s h l k = omega arith
 
 -- the whole part and the fraction are x + 126, and the fraction keeps away
 pub record Exactly (x : Float) : Type 0 where
@@ -202,32 +202,32 @@ module _ (x : Float) (a : Accepts x) (opened : is_left_open (raised (cut_of x % 
   inside : (256 < cut_of x % 2 ^ 32) × (cut_of x % 2 ^ 32 < D - 128)
   inside = open_fraction (cut_of x % 2 ^ 32) (omega arith) opened
 
-  plus-size : P x ≡ mag x → N x ≡ 0 → 2 ^ 125 ≤ mag x
-  plus-size p n = elim (le-or-lt (2 ^ 125) (mag x)) [
+  plus_size : P x ≡ mag x → N x ≡ 0 → 2 ^ 125 ≤ mag x
+  plus_size p n = elim (le-or-lt (2 ^ 125) (mag x)) [
     | inl h ↦ h
-    | inr h ↦ absurd (plus-few (mag x / 2 ^ 117) ((div-lt_iff_lt-mul (pow_pos 117)).1 h) (subst (λ (c : ℕ). 256 < c % 2 ^ 32) (cut_plus x p n) inside.0))
+    | inr h ↦ absurd (plus_few (mag x / 2 ^ 117) ((div-lt_iff_lt-mul (pow_pos 117)).1 h) (subst (λ (c : ℕ). 256 < c % 2 ^ 32) (cut_plus x p n) inside.0))
   ]
 
-  minus-size : P x ≡ 0 → N x ≡ mag x → 2 ^ 124 ≤ mag x
-  minus-size p n = elim (le-or-lt (2 ^ 124) (mag x)) [
+  minus_size : P x ≡ 0 → N x ≡ mag x → 2 ^ 124 ≤ mag x
+  minus_size p n = elim (le-or-lt (2 ^ 124) (mag x)) [
     | inl h ↦ h
     | inr h ↦
         let e = cut_minus x p n in
         absurd
-        (minus-few (mag x / 2 ^ 117) ((div-lt_iff_lt-mul (pow_pos 117)).1 h) (subst (λ (c : ℕ). 256 < c % 2 ^ 32) e inside.0) (subst (λ (c : ℕ). c % 2 ^ 32 < D - 128) e inside.1))
+        (minus_few (mag x / 2 ^ 117) ((div-lt_iff_lt-mul (pow_pos 117)).1 h) (subst (λ (c : ℕ). 256 < c % 2 ^ 32) e inside.0) (subst (λ (c : ℕ). c % 2 ^ 32 < D - 128) e inside.1))
   ]
 
   pub open_size : 2 ^ 124 ≤ mag x
-  open_size = elim (sides x) [ inl h ↦ le_trans (lit≤ tt) (plus-size h.0 h.1) | inr h ↦ minus-size h.0 h.1 ]
+  open_size = elim (sides x) [ inl h ↦ le_trans (lit≤ tt) (plus_size h.0 h.1) | inr h ↦ minus_size h.0 h.1 ]
 
   exactly_plus : Rising → P x ≡ mag x → N x ≡ 0 → Exactly x
   exactly_plus rising p n = record {
     whole = rw (cut, fraction) (plus_units ((126 * 2 ^ 32 + w / 2 ^ 32) / 2 ^ 32) (2 ^ 64) ((126 * 2 ^ 64 + w) % 2 ^ 64) (126 * 2 ^ 64) w (2 ^ 85) (P x) (N x) (plus_parts w) (p ∙ t.steps) n);
-    point = rw fraction (plus_point t.m t.j t.least t.digits rising (omega (arith, places-from x t 125 size)) (plus-above w (lt_of_lt_of_le (lit< tt) (le_of_lt (subst (λ (c : ℕ). 256 < c % 2 ^ 32) cut inside.0)))));
+    point = rw fraction (plus_point t.m t.j t.least t.digits rising (omega (arith, places_from x t 125 size)) (plus_above w (lt_of_lt_of_le (lit< tt) (le_of_lt (subst (λ (c : ℕ). 256 < c % 2 ^ 32) cut inside.0)))));
   }
     where
       size : 2 ^ 125 ≤ mag x
-      size = plus-size p n
+      size = plus_size p n
 
       t : Placed x
       t = placed x a.number (le_trans (lit≤ tt) size)
@@ -246,11 +246,11 @@ module _ (x : Float) (a : Accepts x) (opened : is_left_open (raised (cut_of x % 
     whole =
         rw (cut, fraction)
         (minus_units ((126 * 2 ^ 32 - w / 2 ^ 32) / 2 ^ 32) (2 ^ 64) ((126 * 2 ^ 64 - w) % 2 ^ 64) (126 * 2 ^ 64) w (2 ^ 85) (P x) (N x) (minus_parts w room part) p (n ∙ t.steps));
-    point = rw fraction (minus_point t.m t.j t.least t.digits rising falling (omega (arith, places-from x t 124 size)) room (minus-above w room part));
+    point = rw fraction (minus_point t.m t.j t.least t.digits rising falling (omega (arith, places_from x t 124 size)) room (minus_above w room part));
   }
     where
       size : 2 ^ 124 ≤ mag x
-      size = minus-size p n
+      size = minus_size p n
 
       t : Placed x
       t = placed x a.number (le_trans (lit≤ tt) size)
@@ -259,7 +259,7 @@ module _ (x : Float) (a : Accepts x) (opened : is_left_open (raised (cut_of x % 
       w = t.m * 2 ^ t.j
 
       room : w ≤ 126 * 2 ^ 64
-      room = minus-room x t n a.at_least
+      room = minus_room x t n a.at_least
 
       cut : cut_of x ≡ 126 * 2 ^ 32 - w / 2 ^ 32
       cut = cut_minus x p n ∙ ap (λ (s : ℕ). 126 * 2 ^ 32 - s) (in_cut x t)

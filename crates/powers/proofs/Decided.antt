@@ -10,7 +10,7 @@ use Rattle.fine.specs.Value.{fine_of}
 use Rattle.fine.proofs.Method.{fine_most, fine_least, fine_fits}
 use Rattle.powers.specs.Value.{fine_digits}
 use Rattle.powers.proofs.Middles.{Rounds}
-use Rattle.powers.proofs.Told.{whole-most, at_first}
+use Rattle.powers.proofs.Told.{whole_most, at_first}
 use Rattle.powers.proofs.Covered.{Point}
 
 -- ---- E units of 2 ^ -64 above 1, rounded to 24 digits
@@ -53,24 +53,24 @@ below_clash T E l h = go (le_of_mul-le-mul_right (regroup ((2 * T + 1) * 2 ^ 34 
 
 -- ---- the power of a fraction t / 2 ^ 64 that keeps away
 module _ (t : ℕ) (small : t < 2 ^ 64) (point : Point t) where
-  most-at : {n d : ℕ} → AtMost n d point.p 0 point.q → AtMost n d t 0 (2 ^ 64)
-  most-at h = most_of_larger (pow_pos 64) (same-exponent point.p point.q (2 ^ 64) t point.same) h
+  most_at : {n d : ℕ} → AtMost n d point.p 0 point.q → AtMost n d t 0 (2 ^ 64)
+  most_at h = most_of_larger (pow_pos 64) (same_exponent point.p point.q (2 ^ 64) t point.same) h
     where
-      same-exponent : (p q u t : ℕ) → p * u ≡ t * q → p * u + 0 * q ≤ t * q + 0 * u
-      same-exponent p q u t e = omega arith
+      same_exponent : (p q u t : ℕ) → p * u ≡ t * q → p * u + 0 * q ≤ t * q + 0 * u
+      same_exponent p q u t e = omega arith
 
   least_at : {n d : ℕ} → AtLeast n d point.p 0 point.q → AtLeast n d t 0 (2 ^ 64)
-  least_at h = least_of_smaller (pow_pos 64) (same-exponent point.p point.q (2 ^ 64) t point.same) h
+  least_at h = least_of_smaller (pow_pos 64) (same_exponent point.p point.q (2 ^ 64) t point.same) h
     where
-      same-exponent : (p q u t : ℕ) → p * u ≡ t * q → t * q + 0 * u ≤ p * u + 0 * q
-      same-exponent p q u t e = omega arith
+      same_exponent : (p q u t : ℕ) → p * u ≡ t * q → t * q + 0 * u ≤ p * u + 0 * q
+      same_exponent p q u t e = omega arith
 
   -- it is below the middle above
   below-above : (S : ℕ) → 2 ^ 64 + fine_of t < (2 * S + 1) * 2 ^ 40 → AtLeast ((2 * S + 1) * 2 ^ 34 - 1) (2 ^ 58) t 0 (2 ^ 64)
   below-above S l = go (point.off S)
     where
       go : Apart ((2 * S + 1) * 2 ^ 34) (2 ^ 58) point.p point.q → AtLeast ((2 * S + 1) * 2 ^ 34 - 1) (2 ^ 58) t 0 (2 ^ 64)
-      go (above h) = absurd (above_clash S (fine_of t) l (through_power (most-at h) (fine_least t small)))
+      go (above h) = absurd (above_clash S (fine_of t) l (through_power (most_at h) (fine_least t small)))
       go (below h) = least_at h
 
   -- and above the middle below
@@ -78,7 +78,7 @@ module _ (t : ℕ) (small : t < 2 ^ 64) (point : Point t) where
   above-below T l = go (point.off T)
     where
       go : Apart ((2 * T + 1) * 2 ^ 34) (2 ^ 58) point.p point.q → AtMost ((2 * T + 1) * 2 ^ 34 + 1) (2 ^ 58) t 0 (2 ^ 64)
-      go (above h) = most-at h
+      go (above h) = most_at h
       go (below h) = absurd (below_clash T (fine_of t) l (through_power (fine_most t small) (least_at h)))
 
 -- ---- from the fraction to x, whose whole part is g - 126
@@ -121,7 +121,7 @@ module _ (x : Float) (g t : ℕ) (small : t < 2 ^ 64) (whole : g * 2 ^ 149 + t *
         under =
             subst (λ (n : ℕ). LessThan (n * 2 ^ g) (2 * 2 ^ 149) (P x) (N x) (2 ^ 149)) (sym e)
             (less_of_less (lit< tt) (most_by (2 * T + 1) (2 ^ 34) (2 ^ g) (2 * 2 ^ 149) unit) (most_x (above-below t small point T from)));
-        first = λ c. most_of_less (lit< tt) (at_first S (2 ^ g) (2 ^ 126) c) (whole-most x g (no_less (g * 2 ^ 149) (t * 2 ^ 85) (N x) (P x + 126 * 2 ^ 149) whole));
+        first = λ c. most_of_less (lit< tt) (at_first S (2 ^ g) (2 ^ 126) c) (whole_most x g (no_less (g * 2 ^ 149) (t * 2 ^ 85) (N x) (P x + 126 * 2 ^ 149) whole));
       }
     where
       no_less : (a b n c : ℕ) → a + b + n ≡ c → a + n ≤ c

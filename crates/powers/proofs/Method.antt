@@ -4,7 +4,7 @@ use Rattle.exact.specs.Power.{AtMost, AtLeast}
 use Rattle.exact.specs.Polynomial.{value}
 use Rattle.exact.proofs.Power.{least_of_more, most_of_less}
 use Rattle.exact.proofs.Pieces.{knots, end}
-use Rattle.exact.proofs.Near.{near-least, near-most, high-enough, low-enough}
+use Rattle.exact.proofs.Near.{near_least, near_most, high_enough, low_enough}
 use Rattle.exact.proofs.Tight.{upper, lower, tight_above, tight_below}
 use Rattle.fixed.specs.Horner.{horner, alternate, others, chains}
 use Rattle.fixed.proofs.Chains.{altogether, loss, chains-zero, chains_mono, chains_rises, chains-below, chains_close}
@@ -15,13 +15,13 @@ abbrev pub D : ℕ
 D = 2 ^ 32
 
 -- the polynomial itself is within half a unit of 2 ^ t, relatively
-near-above : (p q : ℕ) → 0 < q → p ≤ q → AtLeast ((2 * D + 1) * value 8 coefficients p q) (2 * D * (D * q ^ 8)) p 0 q
-unfolding coefficients upper high-enough knots end
-near-above p q pos small = near-least 8 4 coefficients D (2 * D + 1) (2 * D) upper (2 ^ 48) 4 (knots 1 4 0) (lit< tt) refl (lit≤ tt) p q pos small (lit< tt) (lit< tt) tight_above tt
+near_above : (p q : ℕ) → 0 < q → p ≤ q → AtLeast ((2 * D + 1) * value 8 coefficients p q) (2 * D * (D * q ^ 8)) p 0 q
+unfolding coefficients upper high_enough knots end
+near_above p q pos small = near_least 8 4 coefficients D (2 * D + 1) (2 * D) upper (2 ^ 48) 4 (knots 1 4 0) (lit< tt) refl (lit≤ tt) p q pos small (lit< tt) (lit< tt) tight_above tt
 
-near-below : (p q : ℕ) → 0 < q → p ≤ q → AtMost (2 * D * value 8 coefficients p q) ((2 * D + 1) * (D * q ^ 8)) p 0 q
-unfolding coefficients lower low-enough knots end
-near-below p q pos small = near-most 8 4 coefficients D (2 * D + 1) (2 * D) lower (2 ^ 48) 4 (knots 1 4 0) (lit< tt) refl (lit≤ tt) p q pos small (lit< tt) (lit< tt) tight_below tt
+near_below : (p q : ℕ) → 0 < q → p ≤ q → AtMost (2 * D * value 8 coefficients p q) ((2 * D + 1) * (D * q ^ 8)) p 0 q
+unfolding coefficients lower low_enough knots end
+near_below p q pos small = near_most 8 4 coefficients D (2 * D + 1) (2 * D) lower (2 ^ 48) 4 (knots 1 4 0) (lit< tt) refl (lit≤ tt) p q pos small (lit< tt) (lit< tt) tight_below tt
 
 -- ---- the floors
 
@@ -56,18 +56,18 @@ unfolding raised coefficients
 raised_mono h = chains_mono D coefficients (lit< tt) h
 
 -- up to 1 it is at most 2, so that the pieces meet
-pub raised-top : (f : ℕ) → f ≤ D → raised f ≤ 2 * D
+pub raised_top : (f : ℕ) → f ≤ D → raised f ≤ 2 * D
 unfolding raised coefficients chains horner alternate others
-raised-top f h = le_trans (raised_mono h) (lit≤ tt)
+raised_top f h = le_trans (raised_mono h) (lit≤ tt)
 
 -- so near to 1 it is no step of a float above it, and so near to 2 none below it
-pub raised-near-one : raised 256 ≤ D + 247
+pub raised_near_one : raised 256 ≤ D + 247
 unfolding raised coefficients chains horner alternate others
-raised-near-one = lit≤ tt
+raised_near_one = lit≤ tt
 
-pub raised-near-two : 2 * D ≤ raised (D - 128) + 253
+pub raised_near_two : 2 * D ≤ raised (D - 128) + 253
 unfolding raised coefficients chains horner alternate others
-raised-near-two = lit≤ tt
+raised_near_two = lit≤ tt
 
 -- it rises by half of f at least
 pub raised_rises : (f : ℕ) → 2 * D + f ≤ 2 * raised f + 1
@@ -75,15 +75,15 @@ unfolding raised coefficients
 raised_rises f = let h : D + f * 0xb1721808 / D ≤ raised f = chains_rises D D _ _ f (lit< tt) in omega arith
 
 -- raised f / D ≤ (1 + 1 / (2 D)) 2 ^ (f / D)
-pub raised-most : (f : ℕ) → f ≤ D → AtMost (2 * D * raised f) ((2 * D + 1) * D) f 0 D
-raised-most f small = most_of_less (lit< tt) (through D (D ^ 8) (raised f) (value 8 coefficients f D) (below f)) (near-below f D (lit< tt) small)
+pub raised_most : (f : ℕ) → f ≤ D → AtMost (2 * D * raised f) ((2 * D + 1) * D) f 0 D
+raised_most f small = most_of_less (lit< tt) (through D (D ^ 8) (raised f) (value 8 coefficients f D) (below f)) (near_below f D (lit< tt) small)
   where
     through : (d E r v : ℕ) → r * E ≤ v → 2 * d * r * ((2 * d + 1) * (d * E)) ≤ 2 * d * v * ((2 * d + 1) * d)
     through d E r v h = omega (arith, mul-le-mul_right (2 * d * ((2 * d + 1) * d)) h)
 
 -- 2 ^ (f / D) ≤ (1 + 1 / (2 D)) (raised f + 5 / 4 + 21 f / (4 D)) / D
-pub raised-least : (f : ℕ) → f ≤ D → AtLeast ((2 * D + 1) * ((4 * raised f + 5) * D + 21 * f)) (2 * D * (4 * D * D)) f 0 D
-raised-least f small = least_of_more (lit< tt) (through D (D ^ 7) ((4 * raised f + 5) * D + 21 * f) (value 8 coefficients f D) (above f small)) (near-above f D (lit< tt) small)
+pub raised_least : (f : ℕ) → f ≤ D → AtLeast ((2 * D + 1) * ((4 * raised f + 5) * D + 21 * f)) (2 * D * (4 * D * D)) f 0 D
+raised_least f small = least_of_more (lit< tt) (through D (D ^ 7) ((4 * raised f + 5) * D + 21 * f) (value 8 coefficients f D) (above f small)) (near_above f D (lit< tt) small)
   where
     through : (d E r v : ℕ) → 4 * v ≤ r * E → (2 * d + 1) * v * (2 * d * (4 * d * d)) ≤ (2 * d + 1) * r * (2 * d * (d * (E * d)))
     through d E r v h = omega (arith, mul-le-mul_right ((2 * d + 1) * (2 * d * (d * d))) h)

@@ -4,10 +4,10 @@ use lib.Ieee.{Float}
 use Rattle.units.specs.Units.{P, N}
 use Rattle.units.proofs.Signs.{plus_of_lem, minus_of_lem}
 use Rattle.units.proofs.Bits.{Is}
-use Rattle.fixed.proofs.Nearest.{Middle, nearest-above, nearest-below}
+use Rattle.fixed.proofs.Nearest.{Middle, nearest_above, nearest_below}
 use Rattle.exact.specs.Power.{AtMost, AtLeast, LessThan, MoreThan}
 use Rattle.exact.proofs.Power.{most_of_less, least_of_more}
-use Rattle.exact.proofs.Strict.{less_of_less, more_grows, less_falls, less-most, more-least}
+use Rattle.exact.proofs.Strict.{less_of_less, more_grows, less_falls, less_most, more_least}
 use Rattle.powers.specs.Exp2.{NearestPower, NearPower, exp2_error_num, exp2_error_den}
 
 -- 2 ^ x is between the middles of S steps of 2 ^ g units and their neighbours; at the least significand, where floats below are denser, it is no less than S steps
@@ -64,7 +64,7 @@ module _ (x : Float) (S g : ℕ) (h : Rounds x S g) (r : Float) (is : Is r false
 
   -- so no float is as near
   pub rounds_nearest : NearestPower x r
-  rounds_nearest = record { from-above = nearest-above Over Under S g h.least middle r is; from-below = nearest-below Over Under S g h.least middle r is }
+  rounds_nearest = record { from_above = nearest_above Over Under S g h.least middle r is; from_below = nearest_below Over Under S g h.least middle r is }
 
   units : P r ≡ S * 2 ^ g
   units = plus_of_lem r is.sign ∙ is.units
@@ -77,10 +77,10 @@ module _ (x : Float) (S g : ℕ) (h : Rounds x S g) (r : Float) (is : Is r false
       go (inr l) =
           let (T, e, d, k) = before S l in
           subst (λ (n : ℕ). AtMost (2 ^ 24 * (n * 2 ^ g)) ((2 ^ 24 + 1) * 2 ^ 149) (P x) (N x) (2 ^ 149)) (sym e)
-          (most_of_less (lit< tt) (half_below T (2 ^ g) (2 ^ 149) k) (less-most (subst (λ (n : ℕ). LessThan (n * 2 ^ g) (2 * 2 ^ 149) (P x) (N x) (2 ^ 149)) d h.under)))
+          (most_of_less (lit< tt) (half_below T (2 ^ g) (2 ^ 149) k) (less_most (subst (λ (n : ℕ). LessThan (n * 2 ^ g) (2 * 2 ^ 149) (P x) (N x) (2 ^ 149)) d h.under)))
 
   high : AtLeast (2 ^ 24 * (S * 2 ^ g)) ((2 ^ 24 - 1) * 2 ^ 149) (P x) (N x) (2 ^ 149)
-  high = least_of_more (lit< tt) (half_above S (2 ^ g) (2 ^ 149) h.least) (more-least h.over)
+  high = least_of_more (lit< tt) (half_above S (2 ^ g) (2 ^ 149) h.least) (more_least h.over)
 
   -- and r is within 2 ^ -24
   pub rounds_near : NearPower exp2_error_num exp2_error_den x r

@@ -14,15 +14,15 @@ use Rattle.exact.proofs.ExpBounds.{exp_most_of_less, exp_least_of_more}
 use Rattle.powers.specs.Exp.{Accepts, NearExp, exp_error_num, exp_error_den, Exp}
 use Rattle.powers.specs.Value.{rounded_power, natural_cut, exp_of}
 use Rattle.powers.proofs.Method.{D}
-use Rattle.powers.proofs.Rounding.{digits-zero, digits-most, digits-least}
+use Rattle.powers.proofs.Rounding.{digits_zero, digits_most, digits_least}
 use Rattle.powers.proofs.Order.{exponent_of, fraction_digits, first, pattern_in, pattern_is, units_mono}
 use Rattle.powers.proofs.Promise.{more, fewer}
-use Rattle.powers.proofs.NaturalTaken.{steps_in, natural-top}
-use Rattle.powers.proofs.NaturalReduction.{most-natural_uncut, least-natural_uncut, natural_mono}
+use Rattle.powers.proofs.NaturalTaken.{steps_in, natural_top}
+use Rattle.powers.proofs.NaturalReduction.{most_natural_uncut, least_natural_uncut, natural_mono}
 
 whole-one : rounded_power (126 * D) ≡ 0x3f800000
 unfolding rounded_power
-whole-one = ap (λ (s : ℕ). 126 * 8388608 + s) digits-zero
+whole-one = ap (λ (s : ℕ). 126 * 8388608 + s) digits_zero
 
 module _ (x : Float) (a : Accepts x) where
   abbrev X : ℕ
@@ -40,7 +40,7 @@ module _ (x : Float) (a : Accepts x) where
   -- the value function's float has S 2 ^ g units
   exp_is : Is (exp_of x) false (S * 2 ^ g)
   unfolding exp_of rounded_power
-  exp_is = pattern_is X (natural-top x a)
+  exp_is = pattern_is X (natural_top x a)
 
   exp_units : P (exp_of x) ≡ S * 2 ^ g
   exp_units = plus_of_lem (exp_of x) exp_is.sign ∙ exp_is.units
@@ -53,29 +53,29 @@ module _ (x : Float) (a : Accepts x) where
   fraction : f ≤ D
   fraction = omega arith
 
-  within-most : ExpAtMost (exp_error_den * P (exp_of x)) ((exp_error_den + exp_error_num) * 2 ^ 149) (P x) (N x) (2 ^ 149)
-  within-most = rw exp_units (exp_most_of_less (lit< tt) (through exp_error_den _ (2 * D * D) (1000 * D) ((exp_error_den + exp_error_num) * 2 ^ 149) S (2 ^ g) (lit≤ tt)) whole)
+  within_most : ExpAtMost (exp_error_den * P (exp_of x)) ((exp_error_den + exp_error_num) * 2 ^ 149) (P x) (N x) (2 ^ 149)
+  within_most = rw exp_units (exp_most_of_less (lit< tt) (through exp_error_den _ (2 * D * D) (1000 * D) ((exp_error_den + exp_error_num) * 2 ^ 149) S (2 ^ g) (lit≤ tt)) whole)
     where
       whole : ExpAtMost (2 * D * D * (512 * S) * 2 ^ g * (1000 * D)) ((2 * D + 1) * (D + 256) * D * 2 ^ 126 * (1000 * D + 742)) (P x) (N x) (2 ^ 149)
-      whole = most-natural_uncut x a (rw parts at (most_shift g 126 (digits-most f fraction)))
+      whole = most_natural_uncut x a (rw parts at (most_shift g 126 (digits_most f fraction)))
 
       through : (b d n t z s G : ℕ) → b * d ≤ n * 512 * t * z → b * (s * G) * d ≤ n * (512 * s) * G * t * z
       through b d n t z s G h = omega (arith, mul-le-mul_right (s * G) h)
 
-  within-least : ExpAtLeast (exp_error_den * P (exp_of x)) ((exp_error_den - exp_error_num) * 2 ^ 149) (P x) (N x) (2 ^ 149)
-  within-least =
+  within_least : ExpAtLeast (exp_error_den * P (exp_of x)) ((exp_error_den - exp_error_num) * 2 ^ 149) (P x) (N x) (2 ^ 149)
+  within_least =
       rw exp_units
       (exp_least_of_more (lit< tt)
       (through exp_error_den _ ((2 * D + 1) * (400 * D + 102501)) (1000 * D + 742) ((exp_error_den - exp_error_num) * 2 ^ 149) S (2 ^ g) (lit≤ tt)) whole)
     where
       whole : ExpAtLeast ((2 * D + 1) * (400 * D + 102501) * (512 * S) * 2 ^ g * (1000 * D + 742)) (2 * D * (400 * D * D) * 2 ^ 126 * (1000 * D)) (P x) (N x) (2 ^ 149)
-      whole = least-natural_uncut x a (rw parts at (least_shift g 126 (digits-least f fraction)))
+      whole = least_natural_uncut x a (rw parts at (least_shift g 126 (digits_least f fraction)))
 
       through : (b d n t z s G : ℕ) → n * 512 * t * z ≤ b * d → n * (512 * s) * G * t * z ≤ b * (s * G) * d
       through b d n t z s G h = omega (arith, mul-le-mul_right (s * G) h)
 
   exp_near : NearExp exp_error_num exp_error_den x (exp_of x)
-  exp_near = record { plus = minus_of_lem (exp_of x) exp_is.sign; at_most = within-most; at_least = within-least }
+  exp_near = record { plus = minus_of_lem (exp_of x) exp_is.sign; at_most = within_most; at_least = within_least }
 
   -- ---- exactly 1 at 0, normal results
 
@@ -133,7 +133,7 @@ unfolding exp_of rounded_power
 success x a e = written (exp_of x) (promised x a) (e ∙ sym (pattern_back _ (omega (arith, in_pattern)) (no_nan_positive _ in_pattern)))
   where
     in_pattern : exponent_of (natural_cut x) * 8388608 + fraction_digits (natural_cut x) < 255 * 8388608
-    in_pattern = pattern_in (natural_cut x) (natural-top x a)
+    in_pattern = pattern_in (natural_cut x) (natural_top x a)
 
 pub refusal : (x : Float) {before : ℕ} → ¬ Accepts x → Ends float_bits (Exp x) 1 before before
 refusal x n = untouched 1 (exp_of x) (λ z. omega arith) (refused x n)

@@ -9,14 +9,14 @@ use Rattle.exact.specs.Polynomial.{value}
 use Rattle.exact.specs.Power.{AtMost, AtLeast}
 use Rattle.exact.specs.Exponential.{powers, ExpAtMost, ExpAtLeast}
 use Rattle.exact.proofs.Series.{over_pos}
-use Rattle.exact.proofs.Power.{least_of_more, most-mul, least-mul, most_of_larger, least_of_smaller, through_power}
+use Rattle.exact.proofs.Power.{least_of_more, most_mul, least_mul, most_of_larger, least_of_smaller, through_power}
 use Rattle.exact.proofs.Tight.{upper, tight_above}
 use Rattle.exact.proofs.Natural.{ln_two, ln_unit, exponential_most, exponential_least}
 use Rattle.fixed.proofs.Horner.{quotients}
 use Rattle.powers.specs.Exp.{Accepts}
 use Rattle.powers.specs.Value.{log2E, natural_cut}
 use Rattle.powers.proofs.Method.{D}
-use Rattle.powers.proofs.Reduction.{part-order, counted_order}
+use Rattle.powers.proofs.Reduction.{part_order, counted_order}
 use Rattle.powers.proofs.NaturalTaken.{steps_in, room}
 
 -- ---- ln 2 and log2 e, as they were cut off
@@ -42,15 +42,15 @@ narrow = lit≤ tt
 -- ---- e ^ p between powers of two, for p units of 2 ^ -149
 module _ (p : ℕ) where
   -- 2 ^ (steps) ≤ e ^ p, from some partial sum on
-  pub steps-least : (from : ℕ) × ((n : ℕ) → from ≤ n → AtLeast (powers p (2 ^ 149) n) (denominator (2 ^ 149) n) (steps_in p) 0 D)
-  steps-least = exponential_least p (2 ^ 149) (steps_in p) D (pow_pos 149) (lit< tt) (le_of_mul-le-mul_right (through (ln_two + 1) (steps_in p) (2 ^ 149) (ln_unit * D) (2 ^ 7) (2 ^ 135) (div-mul-le_self (p * log2E) (2 ^ 156)) at_most_one width) (pow_pos 7))
+  pub steps_least : (from : ℕ) × ((n : ℕ) → from ≤ n → AtLeast (powers p (2 ^ 149) n) (denominator (2 ^ 149) n) (steps_in p) 0 D)
+  steps_least = exponential_least p (2 ^ 149) (steps_in p) D (pow_pos 149) (lit< tt) (le_of_mul-le-mul_right (through (ln_two + 1) (steps_in p) (2 ^ 149) (ln_unit * D) (2 ^ 7) (2 ^ 135) (div-mul-le_self (p * log2E) (2 ^ 156)) at_most_one width) (pow_pos 7))
     where
       through : (l u w c s o : ℕ) → u * (w * s) ≤ p * log2E → l * log2E ≤ o → o ≤ c * s → l * u * w * s ≤ p * c * s
       through l u w c s o h k m = omega (arith, mul-le-mul_left l h, mul-le-mul_left p k, mul-le-mul_left p m)
 
   -- e ^ p ≤ 2 ^ (steps + 107 / 100), for p up to 88
-  steps-most : p ≤ 88 * 2 ^ 149 → (n : ℕ) → AtMost (powers p (2 ^ 149) n) (denominator (2 ^ 149) n) (100 * steps_in p + 107) 0 (100 * D)
-  steps-most small = exponential_most p (2 ^ 149) (100 * steps_in p + 107) (100 * D) (pow_pos 149) (lit< tt) (le_of_mul-le-mul_right (through ln_two (steps_in p) (2 ^ 149) (ln_unit * (100 * D)) (2 ^ 7) (2 ^ 135) (le_of_lt (lt-div-mul-add (pow_pos 156))) lost narrow) (pow_pos 7))
+  steps_most : p ≤ 88 * 2 ^ 149 → (n : ℕ) → AtMost (powers p (2 ^ 149) n) (denominator (2 ^ 149) n) (100 * steps_in p + 107) 0 (100 * D)
+  steps_most small = exponential_most p (2 ^ 149) (100 * steps_in p + 107) (100 * D) (pow_pos 149) (lit< tt) (le_of_mul-le-mul_right (through ln_two (steps_in p) (2 ^ 149) (ln_unit * (100 * D)) (2 ^ 7) (2 ^ 135) (le_of_lt (lt-div-mul-add (pow_pos 156))) lost narrow) (pow_pos 7))
     where
       -- what is missing to 1 costs p less than 7 / 100 of a step
       lost : 100 * 2 ^ 135 * p ≤ 100 * (ln_two * log2E) * p + 7 * (ln_two * 2 ^ 156)
@@ -84,11 +84,11 @@ finer_least {p} {m} h = least_of_smaller (lit< tt) (le_of_eq (sym (finer p m))) 
 
 -- ---- from the exponent that is left to x's own
 
-turned-most : (n c T Z E F w : ℕ) → n * E * (w * T) ≤ F * Z * (c * w) → n * T * E * w ≤ F * (c * Z) * w
-turned-most n c T Z E F w g = omega arith
+turned_most : (n c T Z E F w : ℕ) → n * E * (w * T) ≤ F * Z * (c * w) → n * T * E * w ≤ F * (c * Z) * w
+turned_most n c T Z E F w g = omega arith
 
-turned-least : (n c T Z E F w : ℕ) → F * (c * (w * T)) ≤ n * (E * Z) * w → F * (c * T) * w ≤ n * Z * E * w
-turned-least n c T Z E F w g = omega arith
+turned_least : (n c T Z E F w : ℕ) → F * (c * (w * T)) ≤ n * (E * Z) * w → F * (c * T) * w ≤ n * Z * E * w
+turned_least n c T Z E F w g = omega arith
 
 module _ (x : Float) (a : Accepts x) where
   abbrev X : ℕ
@@ -116,35 +116,35 @@ module _ (x : Float) (a : Accepts x) where
   equal X q p e = omega (arith, ap (λ (y : ℕ). y * D) e)
 
   -- what is at most 2 ^ (what was cut to) is at most e ^ x, but for 742 / 1000 of 2 ^ -32
-  pub most-natural_uncut : {n c : ℕ} → AtMost n c X (126 * D) D → ExpAtMost (n * (1000 * D)) (c * (1000 * D + 742)) (P x) (N x) (2 ^ 149)
-  most-natural_uncut {n} {c} h = record { per = one-le-mul h.per (lit< tt); root = pow_pos 149; from = (steps-least (P x)).0; holds = at }
+  pub most_natural_uncut : {n c : ℕ} → AtMost n c X (126 * D) D → ExpAtMost (n * (1000 * D)) (c * (1000 * D + 742)) (P x) (N x) (2 ^ 149)
+  most_natural_uncut {n} {c} h = record { per = one-le-mul h.per (lit< tt); root = pow_pos 149; from = (steps_least (P x)).0; holds = at }
     where
-      at : (k : ℕ) → (steps-least (P x)).0 ≤ k → n * (1000 * D) * powers (N x) (2 ^ 149) k ≤ powers (P x) (2 ^ 149) k * (c * (1000 * D + 742))
-      at k l = le_of_mul-le-mul_right (turned-most n c (1000 * D) (1000 * D + 742) (powers (N x) (2 ^ 149) k) (powers (P x) (2 ^ 149) k) (d k) (through_power left right)) (over_pos (2 ^ 149) k (pow_pos 149))
+      at : (k : ℕ) → (steps_least (P x)).0 ≤ k → n * (1000 * D) * powers (N x) (2 ^ 149) k ≤ powers (P x) (2 ^ 149) k * (c * (1000 * D + 742))
+      at k l = le_of_mul-le-mul_right (turned_most n c (1000 * D) (1000 * D + 742) (powers (N x) (2 ^ 149) k) (powers (P x) (2 ^ 149) k) (d k) (through_power left right)) (over_pos (2 ^ 149) k (pow_pos 149))
         where
           left : AtMost (n * powers (N x) (2 ^ 149) k) (c * d k) (100 * p + 107) 0 (100 * D)
           left =
               most_of_larger (lit< tt) (le_of_eq (equal X q p balance))
-              (most-mul (finer_most h) (steps-most (N x) (le_trans a.at_least (lit≤ tt)) k))
+              (most_mul (finer_most h) (steps_most (N x) (le_trans a.at_least (lit≤ tt)) k))
 
           right : AtLeast (powers (P x) (2 ^ 149) k * (1000 * D + 742)) (d k * (1000 * D)) (100 * p + 107) 0 (100 * D)
-          right = least-mul (finer_least ((steps-least (P x)).1 k l)) step_more
+          right = least_mul (finer_least ((steps_least (P x)).1 k l)) step_more
 
   -- and what is at least 2 ^ (what was cut to) is at least e ^ x, but for as much
-  pub least-natural_uncut : {n c : ℕ} → AtLeast n c X (126 * D) D → ExpAtLeast (n * (1000 * D + 742)) (c * (1000 * D)) (P x) (N x) (2 ^ 149)
-  least-natural_uncut {n} {c} h = record { per = one-le-mul h.per (lit< tt); root = pow_pos 149; from = (steps-least (N x)).0; holds = at }
+  pub least_natural_uncut : {n c : ℕ} → AtLeast n c X (126 * D) D → ExpAtLeast (n * (1000 * D + 742)) (c * (1000 * D)) (P x) (N x) (2 ^ 149)
+  least_natural_uncut {n} {c} h = record { per = one-le-mul h.per (lit< tt); root = pow_pos 149; from = (steps_least (N x)).0; holds = at }
     where
-      at : (k : ℕ) → (steps-least (N x)).0 ≤ k → powers (P x) (2 ^ 149) k * (c * (1000 * D)) ≤ n * (1000 * D + 742) * powers (N x) (2 ^ 149) k
-      at k l = le_of_mul-le-mul_right (turned-least n c (1000 * D) (1000 * D + 742) (powers (N x) (2 ^ 149) k) (powers (P x) (2 ^ 149) k) (d k) (through_power (steps-most (P x) a.at_most k) above)) (over_pos (2 ^ 149) k (pow_pos 149))
+      at : (k : ℕ) → (steps_least (N x)).0 ≤ k → powers (P x) (2 ^ 149) k * (c * (1000 * D)) ≤ n * (1000 * D + 742) * powers (N x) (2 ^ 149) k
+      at k l = le_of_mul-le-mul_right (turned_least n c (1000 * D) (1000 * D + 742) (powers (N x) (2 ^ 149) k) (powers (P x) (2 ^ 149) k) (d k) (through_power (steps_most (P x) a.at_most k) above)) (over_pos (2 ^ 149) k (pow_pos 149))
         where
           above : AtLeast (n * (powers (N x) (2 ^ 149) k * (1000 * D + 742))) (c * (d k * (1000 * D))) (100 * p + 107) 0 (100 * D)
           above =
               least_of_smaller (lit< tt) (le_of_eq (sym (equal X q p balance)))
-              (least-mul (finer_least h) (least-mul (finer_least ((steps-least (N x)).1 k l)) step_more))
+              (least_mul (finer_least h) (least_mul (finer_least ((steps_least (N x)).1 k l)) step_more))
 
 -- ---- order: a larger x is never cut to less
 pub natural_mono : (x x' : Float) → Le x' x → natural_cut x' ≤ natural_cut x
 unfolding natural_cut
 natural_mono x x' l =
-    let (h, k) = part-order x x' l in
+    let (h, k) = part_order x x' l in
     counted_order (126 * D) (steps_in (P x)) (steps_in (P x')) (steps_in (N x)) (steps_in (N x')) (quotients (2 ^ 156) (pow_pos 156) (mul-le-mul_right log2E h)) (quotients (2 ^ 156) (pow_pos 156) (mul-le-mul_right log2E k))

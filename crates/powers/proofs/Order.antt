@@ -5,7 +5,7 @@ use Rattle.units.proofs.Naturals.{le-or-lt}
 use Rattle.units.proofs.Bits.{Is, put_positive}
 use Rattle.powers.specs.Value.{power_digits}
 use Rattle.powers.proofs.Method.{D}
-use Rattle.powers.proofs.Rounding.{digits-zero, digits_mono, digits-first, digits_last}
+use Rattle.powers.proofs.Rounding.{digits_zero, digits_mono, digits_first, digits_last}
 
 -- the whole part of what x was cut to
 abbrev pub exponent_of : ℕ → ℕ
@@ -17,7 +17,7 @@ fraction_digits X = power_digits (X % 2 ^ 32)
 
 -- these are 24
 pub first : (X : ℕ) → 2 ^ 23 ≤ fraction_digits X
-first X = digits-first (X % D)
+first X = digits_first (X % D)
 
 -- or the carry
 pub last : (X : ℕ) → fraction_digits X ≤ 2 ^ 24
@@ -28,7 +28,7 @@ pub pattern_in : (X : ℕ) → X ≤ 253 * D → exponent_of X * 8388608 + fract
 pattern_in X h = elim (le-or-lt (253 * D) X) [
   | inl l ↦
       let z : X % D ≡ 0 = omega arith in
-      let d : fraction_digits X ≡ 8388608 = ap power_digits z ∙ digits-zero in
+      let d : fraction_digits X ≡ 8388608 = ap power_digits z ∙ digits_zero in
       omega arith
   | inr l ↦ omega (arith, last X)
 ]
@@ -54,4 +54,4 @@ pieces_mono h L grows first last X X' l = elim (le-or-lt (exponent_of X) (expone
 
 -- a larger number has no fewer units
 pub units_mono : (X X' : ℕ) → X' ≤ X → fraction_digits X' * 2 ^ exponent_of X' ≤ fraction_digits X * 2 ^ exponent_of X
-units_mono = pieces_mono power_digits (2 ^ 23) (λ f g l. digits_mono l) digits-first digits_last
+units_mono = pieces_mono power_digits (2 ^ 23) (λ f g l. digits_mono l) digits_first digits_last

@@ -8,7 +8,7 @@ use Rattle.units.proofs.Signs.{plus_of_lem, minus_of_lem}
 use Rattle.units.proofs.Bits.{sign_bit, Pattern, pattern_normal}
 use Rattle.powers.specs.Exp2.{Accepts}
 use Rattle.powers.specs.Value.{cut_of, fraction_of}
-use Rattle.powers.proofs.Taken.{size_small, plus-sign, minus-sign}
+use Rattle.powers.proofs.Taken.{size_small, plus_sign, minus_sign}
 
 -- ---- what x is cut to, by its sign
 
@@ -56,11 +56,11 @@ placed x h size = record {
     back : (k : ℕ) → 85 ≤ k → k ≡ k - 85 + 85
     back k h = omega arith
 
-plus-div : (c w u p n : ℕ) → 0 < u → p ≡ w * u → n ≡ 0 → (c * u + p - n) / u ≡ c + w
-plus-div c w u p n pos e z = let s : c * u + p - n ≡ (c + w) * u = omega arith in ap (λ (a : ℕ). a / u) s ∙ mul-div_cancel (c + w) pos
+plus_div : (c w u p n : ℕ) → 0 < u → p ≡ w * u → n ≡ 0 → (c * u + p - n) / u ≡ c + w
+plus_div c w u p n pos e z = let s : c * u + p - n ≡ (c + w) * u = omega arith in ap (λ (a : ℕ). a / u) s ∙ mul-div_cancel (c + w) pos
 
-minus-div : (c w u p n : ℕ) → 0 < u → p ≡ 0 → n ≡ w * u → (c * u + p - n) / u ≡ c - w
-minus-div c w u p n pos z e =
+minus_div : (c w u p n : ℕ) → 0 < u → p ≡ 0 → n ≡ w * u → (c * u + p - n) / u ≡ c - w
+minus_div c w u p n pos z e =
     let s : c * u + p - n ≡ u * c - u * w = omega arith in
     ap (λ (a : ℕ). a / u) (s ∙ sym (mul-sub u c w) ∙ mul_comm u (c - w)) ∙ mul-div_cancel (c - w) pos
 
@@ -71,8 +71,8 @@ module _ (x : Float) (t : Placed x) where
   in_units : mag x ≡ t.m * 2 ^ (t.j + 85)
   in_units = t.steps ∙ mul_assoc t.m (2 ^ t.j) (2 ^ 85) ∙ ap (λ (n : ℕ). t.m * n) (sym (pow-add 2 t.j 85))
 
-  pub places-from : (n : ℕ) → 2 ^ n ≤ mag x → n < 24 + (t.j + 85)
-  places-from n h =
+  pub places_from : (n : ℕ) → 2 ^ n ≤ mag x → n < 24 + (t.j + 85)
+  places_from n h =
       pow_back_lt n (24 + (t.j + 85))
       (lt_of_le_of_lt h
       (lt_of_le_of_lt (le_of_eq in_units)
@@ -85,14 +85,14 @@ module _ (x : Float) (t : Placed x) where
   -- the fraction, by the sign
   pub fraction_plus : P x ≡ mag x → N x ≡ 0 → fraction_of x ≡ (126 * 2 ^ 64 + w) % 2 ^ 64
   unfolding fraction_of
-  fraction_plus p n = ap (λ (i : ℕ). i % 2 ^ 64) (plus-div (126 * 2 ^ 64) w (2 ^ 85) (P x) (N x) (pow_pos 85) (p ∙ t.steps) n)
+  fraction_plus p n = ap (λ (i : ℕ). i % 2 ^ 64) (plus_div (126 * 2 ^ 64) w (2 ^ 85) (P x) (N x) (pow_pos 85) (p ∙ t.steps) n)
 
   pub fraction_minus : P x ≡ 0 → N x ≡ mag x → fraction_of x ≡ (126 * 2 ^ 64 - w) % 2 ^ 64
   unfolding fraction_of
-  fraction_minus p n = ap (λ (i : ℕ). i % 2 ^ 64) (minus-div (126 * 2 ^ 64) w (2 ^ 85) (P x) (N x) (pow_pos 85) p (n ∙ t.steps))
+  fraction_minus p n = ap (λ (i : ℕ). i % 2 ^ 64) (minus_div (126 * 2 ^ 64) w (2 ^ 85) (P x) (N x) (pow_pos 85) p (n ∙ t.steps))
 
-  pub minus-room : N x ≡ mag x → N x ≤ 126 * 2 ^ 149 → w ≤ 126 * 2 ^ 64
-  minus-room n h = le_of_mul-le-mul_right (le_trans (le_of_eq (sym (n ∙ t.steps))) h) (pow_pos 85)
+  pub minus_room : N x ≡ mag x → N x ≤ 126 * 2 ^ 149 → w ≤ 126 * 2 ^ 64
+  minus_room n h = le_of_mul-le-mul_right (le_trans (le_of_eq (sym (n ∙ t.steps))) h) (pow_pos 85)
 
 -- ---- from the pattern
 module _ (x : Float) (a : Accepts x) (size : 2 ^ 109 ≤ mag x) where
@@ -103,8 +103,8 @@ module _ (x : Float) (a : Accepts x) (size : 2 ^ 109 ≤ mag x) where
   t = placed x a.number size
 
   -- at most 47 places
-  pub places-few : t.j ≤ 47
-  places-few = few t.j (pow_back_lt (23 + (t.j + 85)) 156 (lt_of_le_of_lt (le_trans (le_of_eq (pow-add 2 23 (t.j + 85))) (le_trans (mul-le-mul_right (2 ^ (t.j + 85)) t.least) (le_of_eq (sym (in_units x t))))) (size_small x a)))
+  pub places_few : t.j ≤ 47
+  places_few = few t.j (pow_back_lt (23 + (t.j + 85)) 156 (lt_of_le_of_lt (le_trans (le_of_eq (pow-add 2 23 (t.j + 85))) (le_trans (mul-le-mul_right (2 ^ (t.j + 85)) t.least) (le_of_eq (sym (in_units x t))))) (size_small x a)))
     where
       few : (j : ℕ) → 23 + (j + 85) < 156 → j ≤ 47
       few j h = omega arith
@@ -115,10 +115,10 @@ module _ (x : Float) (a : Accepts x) (size : 2 ^ 109 ≤ mag x) where
   read false b m j e l h k = (omega arith, omega arith)
 
   pub read_digits : b % 8388608 + 8388608 ≡ t.m
-  read_digits = (read (negative x) b t.m t.j t.bits t.least t.digits places-few).0
+  read_digits = (read (negative x) b t.m t.j t.bits t.least t.digits places_few).0
 
   pub read_exponent : b % 2147483648 / 8388608 ≡ t.j + 86
-  read_exponent = (read (negative x) b t.m t.j t.bits t.least t.digits places-few).1
+  read_exponent = (read (negative x) b t.m t.j t.bits t.least t.digits places_few).1
 
   -- the digits shifted to their place
   pub shifted : (b % 8388608 + 8388608) * 2 ^ (b % 2147483648 / 8388608 - 86) ≡ w x t
@@ -129,7 +129,7 @@ module _ (x : Float) (a : Accepts x) (size : 2 ^ 109 ≤ mag x) where
 
   -- are the fraction, what is before the point cut off
   pub taken_plus : b < 2147483648 → w x t % 2 ^ 64 ≡ fraction_of x
-  taken_plus l = cut (w x t) ∙ sym (fraction_plus x t (plus_of_lem x (plus-sign x a l)) (minus_of_lem x (plus-sign x a l)))
+  taken_plus l = cut (w x t) ∙ sym (fraction_plus x t (plus_of_lem x (plus_sign x a l)) (minus_of_lem x (plus_sign x a l)))
     where
       cut : (n : ℕ) → n % 2 ^ 64 ≡ (126 * 2 ^ 64 + n) % 2 ^ 64
       cut n = omega arith
@@ -137,9 +137,9 @@ module _ (x : Float) (a : Accepts x) (size : 2 ^ 109 ≤ mag x) where
   -- or, of a negative x, what is missing to a whole number
   pub taken_minus : 2147483648 ≤ b → (r : ℕ) → r < 2 ^ 64 → (r + w x t % 2 ^ 64) % 2 ^ 64 ≡ 0 → r ≡ fraction_of x
   taken_minus l r fits e =
-      let p : P x ≡ 0 = ap (λ (s : Bool). cond s 0 (mag x)) (minus-sign x a l) in
-      let n : N x ≡ mag x = ap (λ (s : Bool). cond s (mag x) 0) (minus-sign x a l) in
-      missing r (w x t) fits (minus-room x t n a.at_least) e ∙ sym (fraction_minus x t p n)
+      let p : P x ≡ 0 = ap (λ (s : Bool). cond s 0 (mag x)) (minus_sign x a l) in
+      let n : N x ≡ mag x = ap (λ (s : Bool). cond s (mag x) 0) (minus_sign x a l) in
+      missing r (w x t) fits (minus_room x t n a.at_least) e ∙ sym (fraction_minus x t p n)
     where
       missing : (r n : ℕ) → r < 2 ^ 64 → n ≤ 126 * 2 ^ 64 → (r + n % 2 ^ 64) % 2 ^ 64 ≡ 0 → r ≡ (126 * 2 ^ 64 - n) % 2 ^ 64
       missing r n h k e = omega arith

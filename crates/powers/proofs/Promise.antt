@@ -11,13 +11,13 @@ use Rattle.units.proofs.Patterns.{pattern_back}
 use Rattle.fixed.proofs.Nearest.{in_order}
 use Rattle.exact.specs.Power.{LessThan, MoreThan}
 use Rattle.exact.proofs.Power.{most_of_less, least_of_more, most_of_larger}
-use Rattle.exact.proofs.Strict.{less-most, not_both}
+use Rattle.exact.proofs.Strict.{less_most, not_both}
 use Rattle.gaps.proofs.Powers.{rising, falling}
 use Rattle.powers.specs.Exp2.{Accepts, NearestPower, NearPower, exp2_error_num, exp2_error_den, Exp2}
 use Rattle.powers.specs.Raised.{raised}
 use Rattle.powers.specs.Value.{cut_of, power_digits, is_left_open, fraction_of, fine_digits, exp2_digits, exp2_bits, exp2_of}
 use Rattle.powers.proofs.Method.{D, raised-zero}
-use Rattle.powers.proofs.Rounding.{digits-zero}
+use Rattle.powers.proofs.Rounding.{digits_zero}
 use Rattle.powers.proofs.Reduction.{cut_whole, cut_top}
 use Rattle.powers.proofs.Order.{exponent_of, first, last, pattern_in}
 use Rattle.powers.proofs.Middles.{Found, rounds_nearest, rounds_near}
@@ -78,28 +78,28 @@ module _ (x : Float) (a : Accepts x) where
   exp2_units : P (exp2_of x) ≡ exp2_digits x * 2 ^ g
   exp2_units = plus_of_lem (exp2_of x) exp2_is.sign ∙ exp2_is.units
 
-  found-is : Is (exp2_of x) false (digits.found.S * 2 ^ digits.found.g)
-  found-is = subst (λ (u : ℕ). Is (exp2_of x) false u) digits.found.same exp2_is
+  found_is : Is (exp2_of x) false (digits.found.S * 2 ^ digits.found.g)
+  found_is = subst (λ (u : ℕ). Is (exp2_of x) false u) digits.found.same exp2_is
 
   -- ---- nearest, and so near
 
   pub exp2_nearest : NearestPower x (exp2_of x)
-  exp2_nearest = rounds_nearest x digits.found.S digits.found.g digits.found.rounds (exp2_of x) found-is
+  exp2_nearest = rounds_nearest x digits.found.S digits.found.g digits.found.rounds (exp2_of x) found_is
 
   exp2_near : NearPower exp2_error_num exp2_error_den x (exp2_of x)
-  exp2_near = rounds_near x digits.found.S digits.found.g digits.found.rounds (exp2_of x) found-is
+  exp2_near = rounds_near x digits.found.S digits.found.g digits.found.rounds (exp2_of x) found_is
 
   -- ---- exact powers, normal results
 
-  zero-digits : f ≡ 0 → exp2_digits x ≡ 2 ^ 23
+  zero_digits : f ≡ 0 → exp2_digits x ≡ 2 ^ 23
   unfolding exp2_digits is_left_open
-  zero-digits z = ap (λ (d : ℕ). cond (is_left_open (raised d)) (fine_digits (fraction_of x)) (power_digits d)) z ∙ ap (λ (r : ℕ). cond (is_left_open r) (fine_digits (fraction_of x)) (power_digits 0)) raised-zero ∙ digits-zero
+  zero_digits z = ap (λ (d : ℕ). cond (is_left_open (raised d)) (fine_digits (fraction_of x)) (power_digits d)) z ∙ ap (λ (r : ℕ). cond (is_left_open r) (fine_digits (fraction_of x)) (power_digits 0)) raised-zero ∙ digits_zero
 
   exp2_whole : (n m : ℕ) → P x + m * 2 ^ 149 ≡ N x + n * 2 ^ 149 → P (exp2_of x) * 2 ^ m ≡ 2 ^ n * 2 ^ 149
   exp2_whole n m e =
       let c = cut_whole x a n m e in
       let (z, w) = whole_parts X n m c in
-      ap (λ (u : ℕ). u * 2 ^ m) (exp2_units ∙ ap (λ (d : ℕ). d * 2 ^ g) (zero-digits z) ∙ sym (pow-add 2 23 g))
+      ap (λ (u : ℕ). u * 2 ^ m) (exp2_units ∙ ap (λ (d : ℕ). d * 2 ^ g) (zero_digits z) ∙ sym (pow-add 2 23 g))
       ∙ sym (pow-add 2 (23 + g) m)
       ∙ ap (λ (k : ℕ). 2 ^ k) w
       ∙ pow-add 2 n 149
@@ -117,12 +117,12 @@ exponents p n p' n' u h = omega (arith, mul-le-mul_right u h)
 
 -- no number is above 2 · 2 ^ x and below 2 · 2 ^ x', for x' up to x
 pub sides_apart : (x x' : Float) → Le x' x → (s : ℕ) → MoreThan s (2 * 2 ^ 149) (P x) (N x) (2 ^ 149) → LessThan s (2 * 2 ^ 149) (P x') (N x') (2 ^ 149) → ⊥
-sides_apart x x' l s over under = not_both (most_of_larger (pow_pos 149) (exponents (P x) (N x) (P x') (N x') (2 ^ 149) l) (less-most under)) over
+sides_apart x x' l s over under = not_both (most_of_larger (pow_pos 149) (exponents (P x) (N x) (P x') (N x') (2 ^ 149) l) (less_most under)) over
 
 exp2_order : (x : Float) → Accepts x → (x' : Float) → Accepts x' → Le x' x → Le (exp2_of x') (exp2_of x)
 exp2_order x a x' a' l =
     in_order (λ s. MoreThan s (2 * 2 ^ 149) (P x) (N x) (2 ^ 149)) (λ s. LessThan s (2 * 2 ^ 149) (P x') (N x') (2 ^ 149)) (sides_apart x x' l) (exp2_of x) (exp2_of x')
-    ((exp2_nearest x a).from-above (exp2_of x') (exp2_is x' a').number) ((exp2_nearest x' a').from-below (exp2_of x) (exp2_is x a).number)
+    ((exp2_nearest x a).from_above (exp2_of x') (exp2_is x' a').number) ((exp2_nearest x' a').from_below (exp2_of x) (exp2_is x a).number)
 
 -- ---- weaker bounds
 

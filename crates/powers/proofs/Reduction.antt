@@ -7,7 +7,7 @@ use Rattle.units.specs.Units.{mag, P, N, Le}
 use Rattle.units.proofs.Signs.{sides}
 use Rattle.exact.specs.Power.{AtMost, AtLeast}
 use Rattle.exact.specs.Polynomial.{value}
-use Rattle.exact.proofs.Power.{least_of_more, at_most, most-mul, least-mul, most_of_larger, least_of_smaller}
+use Rattle.exact.proofs.Power.{least_of_more, at_most, most_mul, least_mul, most_of_larger, least_of_smaller}
 use Rattle.exact.proofs.Tight.{upper, tight_above}
 use Rattle.fixed.proofs.Horner.{quotients}
 use Rattle.powers.specs.Exp2.{Accepts}
@@ -65,12 +65,12 @@ module _ (x : Float) (a : Accepts x) where
   -- what is at most 2 ^ (what was cut to) is at most 2 ^ x, but for 7 / 10 of 2 ^ -32
   pub most_uncut : {n d : ℕ} → AtMost n d (cut_of x) (126 * D) D → AtMost (n * (10 * D)) (d * (10 * D + 7)) (P x) (N x) (2 ^ 149)
   unfolding cut_of
-  most_uncut h = most_of_larger (lit< tt) (cut_above D K (P x) (N x) (pow_pos 117) a.at_least) (most-mul h (at_most one_step))
+  most_uncut h = most_of_larger (lit< tt) (cut_above D K (P x) (N x) (pow_pos 117) a.at_least) (most_mul h (at_most one_step))
 
   -- and what is at least 2 ^ (what was cut to) is at least 2 ^ x, but for as much
   pub least_uncut : {n d : ℕ} → AtLeast n d (cut_of x) (126 * D) D → AtLeast (n * (10 * D + 7)) (d * (10 * D)) (P x) (N x) (2 ^ 149)
   unfolding cut_of
-  least_uncut h = least_of_smaller (lit< tt) (cut_below D K (P x) (N x) (pow_pos 117) a.at_least) (least-mul h one_step)
+  least_uncut h = least_of_smaller (lit< tt) (cut_below D K (P x) (N x) (pow_pos 117) a.at_least) (least_mul h one_step)
 
   -- of a whole number n - m nothing is cut off
   pub cut_whole : (n m : ℕ) → P x + m * 2 ^ 149 ≡ N x + n * 2 ^ 149 → cut_of x + m * D ≡ (126 + n) * D
@@ -88,8 +88,8 @@ module _ (x : Float) (a : Accepts x) where
 -- ---- Order
 
 -- a larger x has no smaller positive and no larger negative part
-pub part-order : (x x' : Float) → Le x' x → (P x' ≤ P x) × (N x ≤ N x')
-part-order x x' l = go (sides x) (sides x')
+pub part_order : (x x' : Float) → Le x' x → (P x' ≤ P x) × (N x ≤ N x')
+part_order x x' l = go (sides x) (sides x')
   where
     go : ((P x ≡ mag x) × (N x ≡ 0)) ⊎ ((P x ≡ 0) × (N x ≡ mag x)) → ((P x' ≡ mag x') × (N x' ≡ 0)) ⊎ ((P x' ≡ 0) × (N x' ≡ mag x')) → (P x' ≤ P x) × (N x ≤ N x')
     go (inl h) (inl k) = (omega arith, omega arith)
@@ -105,5 +105,5 @@ counted_order c a a' b b' h k = omega arith
 pub cut_mono : (x x' : Float) → Le x' x → cut_of x' ≤ cut_of x
 unfolding cut_of
 cut_mono x x' l =
-    let (h, k) = part-order x x' l in
+    let (h, k) = part_order x x' l in
     counted_order (126 * D) (P x / K) (P x' / K) (N x / K) (N x' / K) (quotients K (pow_pos 117) h) (quotients K (pow_pos 117) k)

@@ -25,8 +25,8 @@ unfolding steps_of
 steps_high b h = rw (le-ltb b (94 * 8388608) h)
 
 -- from 2 ^ -9 on nothing is cut off
-pub steps-whole : (b : ℕ) → 118 ≤ b / 8388608 → steps_of b ≡ (b % 8388608 + 8388608) * 2 ^ (b / 8388608 - 118)
-steps-whole b h = steps_high b (omega arith) ∙ ap (λ (n : ℕ). (b % 8388608 + 8388608) * n / 2 ^ 24) (ap (λ (n : ℕ). 2 ^ n) split ∙ pow-add 2 (b / 8388608 - 118) 24) ∙ through (b % 8388608 + 8388608) (2 ^ (b / 8388608 - 118))
+pub steps_whole : (b : ℕ) → 118 ≤ b / 8388608 → steps_of b ≡ (b % 8388608 + 8388608) * 2 ^ (b / 8388608 - 118)
+steps_whole b h = steps_high b (omega arith) ∙ ap (λ (n : ℕ). (b % 8388608 + 8388608) * n / 2 ^ 24) (ap (λ (n : ℕ). 2 ^ n) split ∙ pow-add 2 (b / 8388608 - 118) 24) ∙ through (b % 8388608 + 8388608) (2 ^ (b / 8388608 - 118))
   where
     split : b / 8388608 - 94 ≡ b / 8388608 - 118 + 24
     split = omega arith
@@ -63,8 +63,8 @@ module _ (x : Float) (a : Accepts x) where
   ]
 
   -- m * 2 ^ k units, by their pattern
-  normal-steps : (k m : ℕ) → mag x ≡ m * 2 ^ k → 8388608 ≤ m → m < 16777216 → k ≤ 132 → steps_of (k * 8388608 + m) ≡ mag x / K
-  normal-steps k m u least digits top = elim (le-or-lt (94 * 8388608) (k * 8388608 + m)) [
+  normal_steps : (k m : ℕ) → mag x ≡ m * 2 ^ k → 8388608 ≤ m → m < 16777216 → k ≤ 132 → steps_of (k * 8388608 + m) ≡ mag x / K
+  normal_steps k m u least digits top = elim (le-or-lt (94 * 8388608) (k * 8388608 + m)) [
     | inl l ↦
         let b = k * 8388608 + m in
         let i : b % 8388608 + 8388608 ≡ m = omega arith in
@@ -82,7 +82,7 @@ module _ (x : Float) (a : Accepts x) where
         let t = pattern_normal x a.number l in
         let high : 23 + t.k < 156 = pow_back_lt (23 + t.k) 156 (lt_of_le_of_lt (le_trans (le_of_eq (pow-add 2 23 t.k)) (mul-le-mul_right (2 ^ t.k) t.least)) (lt_of_le_of_lt (le_of_eq (sym t.units)) size_small)) in
         let digits : t.m < 16777216 = t.digits in
-        (t.k * 8388608 + t.m, record { bits = t.bits; below = omega arith; steps = normal-steps t.k t.m t.units t.least digits (omega arith) })
+        (t.k * 8388608 + t.m, record { bits = t.bits; below = omega arith; steps = normal_steps t.k t.m t.units t.least digits (omega arith) })
     | inr l ↦
         (mag x, record { bits = pattern_subnormal x a.number l; below = omega arith; steps = steps_low (mag x) (omega arith) ∙ sym (div-eq_of_lt (lt_of_lt_of_le l (pow_mono {i = 23} {j = 117} (omega arith)))) })
   ]
@@ -101,15 +101,15 @@ module _ (x : Float) (a : Accepts x) where
       go false t e = omega arith
 
   -- the sign, by its bit
-  pub plus-sign : to_bits binary32 x < 2147483648 → negative x ≡ false
-  plus-sign l = go (negative x) taken.1.bits
+  pub plus_sign : to_bits binary32 x < 2147483648 → negative x ≡ false
+  plus_sign l = go (negative x) taken.1.bits
     where
       go : (s : Bool) → to_bits binary32 x ≡ sign_bit s + taken.0 → s ≡ false
       go true e = absurd (omega arith)
       go false e = refl
 
-  pub minus-sign : 2147483648 ≤ to_bits binary32 x → negative x ≡ true
-  minus-sign l = go (negative x) taken.1.bits taken.1.below
+  pub minus_sign : 2147483648 ≤ to_bits binary32 x → negative x ≡ true
+  minus_sign l = go (negative x) taken.1.bits taken.1.below
     where
       go : (s : Bool) → to_bits binary32 x ≡ sign_bit s + taken.0 → taken.0 < 134 * 8388608 → s ≡ true
       go true e h = refl
@@ -119,15 +119,15 @@ module _ (x : Float) (a : Accepts x) where
   pub pattern_small : to_bits binary32 x % 2147483648 < 134 * 8388608
   pattern_small = let (b, h) = taken in lt_of_le_of_lt (le_of_eq (bare b h)) h.below
 
-  size-steps : steps_of (to_bits binary32 x % 2147483648) ≡ mag x / K
-  size-steps = let (b, h) = taken in ap steps_of (bare b h) ∙ h.steps
+  size_steps : steps_of (to_bits binary32 x % 2147483648) ≡ mag x / K
+  size_steps = let (b, h) = taken in ap steps_of (bare b h) ∙ h.steps
 
   -- without the sign's bit the steps are added
   pub cut_plus : to_bits binary32 x < 2147483648 → 126 * 2 ^ 32 + steps_of (to_bits binary32 x % 2147483648) ≡ cut_of x
   unfolding cut_of
   cut_plus l =
       added (steps_of (to_bits binary32 x % 2147483648)) (P x / K) (N x / K)
-      (size-steps ∙ ap (λ (n : ℕ). n / K) (sym (plus_of_lem x (plus-sign l)))) (ap (λ (n : ℕ). n / K) (minus_of_lem x (plus-sign l)))
+      (size_steps ∙ ap (λ (n : ℕ). n / K) (sym (plus_of_lem x (plus_sign l)))) (ap (λ (n : ℕ). n / K) (minus_of_lem x (plus_sign l)))
     where
       added : (k p n : ℕ) → k ≡ p → n ≡ 0 → 126 * 2 ^ 32 + k ≡ 126 * 2 ^ 32 + p - n
       added k p n e z = omega arith
@@ -137,7 +137,7 @@ module _ (x : Float) (a : Accepts x) where
   unfolding cut_of
   cut_minus l =
       taken_away (steps_of (to_bits binary32 x % 2147483648)) (P x / K) (N x / K)
-      (size-steps ∙ ap (λ (s : Bool). cond s (mag x) 0 / K) (sym (minus-sign l))) (ap (λ (s : Bool). cond s 0 (mag x) / K) (minus-sign l))
+      (size_steps ∙ ap (λ (s : Bool). cond s (mag x) 0 / K) (sym (minus_sign l))) (ap (λ (s : Bool). cond s 0 (mag x) / K) (minus_sign l))
       (quotient D K (P x) (N x) (pow_pos 117) a.at_least)
     where
       taken_away : (k p n : ℕ) → k ≡ n → p ≡ 0 → n ≤ 126 * 2 ^ 32 → (k ≤ 126 * 2 ^ 32) × (126 * 2 ^ 32 - k ≡ 126 * 2 ^ 32 + p - n)

@@ -9,9 +9,9 @@ use Rattle.exact.proofs.Strict.{less_of_less, more_of_more}
 use Rattle.powers.specs.Exp2.{Accepts}
 use Rattle.powers.specs.Raised.{raised}
 use Rattle.powers.specs.Value.{cut_of, power_digits, open_lower, open_upper, is_left_open}
-use Rattle.powers.proofs.Method.{D, raised-zero, raised_mono, raised-top, raised-most, raised-least}
+use Rattle.powers.proofs.Method.{D, raised-zero, raised_mono, raised_top, raised_most, raised_least}
 use Rattle.powers.proofs.Reduction.{most_uncut, least_uncut}
-use Rattle.powers.proofs.Rounding.{digits-first, digits_last}
+use Rattle.powers.proofs.Rounding.{digits_first, digits_last}
 use Rattle.powers.proofs.Order.{exponent_of}
 use Rattle.powers.proofs.Middles.{Rounds, Found}
 
@@ -81,8 +81,8 @@ at_first S G U e = rw e (regroup (2 ^ 23))
 -- ---- x below the whole number that its digits stand above: they are those of 1, and the step below 1 is half as long
 
 -- then R is 1, or a unit more
-one-digits : (R G U : ℕ) → D ≤ R → 0 < G * U → 2 * D * R * G * (10 * D) * U ≤ G * ((2 * D + 1) * D * U * (10 * D + 7)) → (R + 256) / 512 ≡ 2 ^ 23
-one-digits R G U low pos h = digits (le_of_mul-le-mul_right (regroup D h) (mul-pos (lit< tt) pos))
+one_digits : (R G U : ℕ) → D ≤ R → 0 < G * U → 2 * D * R * G * (10 * D) * U ≤ G * ((2 * D + 1) * D * U * (10 * D + 7)) → (R + 256) / 512 ≡ 2 ^ 23
+one_digits R G U low pos h = digits (le_of_mul-le-mul_right (regroup D h) (mul-pos (lit< tt) pos))
   where
     regroup : (d : ℕ) → 2 * d * R * G * (10 * d) * U ≤ G * ((2 * d + 1) * d * U * (10 * d + 7)) → R * (20 * d) * (d * (G * U)) ≤ (2 * d + 1) * (10 * d + 7) * (d * (G * U))
     regroup d h = omega arith
@@ -113,9 +113,9 @@ lit_apart : 2 ^ 24 ≡ 2 ^ 23 → ⊥
 lit_apart e = omega arith
 
 -- at -126 nothing is below the whole number
-one-at-least : (g p n u : ℕ) → n ≤ 126 * u → p + 126 * u < g * u + n → g ≡ g - 1 + 1
-one-at-least zero p n u h l = absurd (omega (arith, zero-mul u))
-one-at-least (suc g) p n u h l = omega arith
+one-at_least : (g p n u : ℕ) → n ≤ 126 * u → p + 126 * u < g * u + n → g ≡ g - 1 + 1
+one-at_least zero p n u h l = absurd (omega (arith, zero-mul u))
+one-at_least (suc g) p n u h l = omega arith
 
 -- ---- a whole power of two, 2 ^ (g - 126), against 2 ^ x
 module _ (x : Float) (g : ℕ) where
@@ -125,11 +125,11 @@ module _ (x : Float) (g : ℕ) where
   mirrored : AtLeast (2 ^ g) (2 ^ 126) g 126 1
   mirrored = record { per = pow_pos 126; root = lit< tt; holds = rw (pow-one (2 ^ g), pow-one (2 ^ 126)) (le_refl (2 ^ g * 2 ^ 126)) }
 
-  pub whole-most : g * 2 ^ 149 + N x ≤ P x + 126 * 2 ^ 149 → AtMost (2 ^ g) (2 ^ 126) (P x) (N x) (2 ^ 149)
-  whole-most h = most_of_larger (pow_pos 149) (rw (mul-one (N x), mul-one (P x)) h) itself
+  pub whole_most : g * 2 ^ 149 + N x ≤ P x + 126 * 2 ^ 149 → AtMost (2 ^ g) (2 ^ 126) (P x) (N x) (2 ^ 149)
+  whole_most h = most_of_larger (pow_pos 149) (rw (mul-one (N x), mul-one (P x)) h) itself
 
-  pub whole-least : P x + 126 * 2 ^ 149 ≤ g * 2 ^ 149 + N x → AtLeast (2 ^ g) (2 ^ 126) (P x) (N x) (2 ^ 149)
-  whole-least h = least_of_smaller (pow_pos 149) (rw (mul-one (N x), mul-one (P x)) h) mirrored
+  pub whole_least : P x + 126 * 2 ^ 149 ≤ g * 2 ^ 149 + N x → AtLeast (2 ^ g) (2 ^ 126) (P x) (N x) (2 ^ 149)
+  whole_least h = least_of_smaller (pow_pos 149) (rw (mul-one (N x), mul-one (P x)) h) mirrored
 
 -- ---- of an accepted x, where its digits R are not open
 module _ (x : Float) (a : Accepts x) where
@@ -156,10 +156,10 @@ module _ (x : Float) (a : Accepts x) where
 
   -- what R stands for, at least and at most
   most : AtMost (2 * D * R * 2 ^ g * (10 * D)) ((2 * D + 1) * D * 2 ^ 126 * (10 * D + 7)) (P x) (N x) (2 ^ 149)
-  most = most_uncut x a (rw parts at (most_shift g 126 (raised-most f fraction)))
+  most = most_uncut x a (rw parts at (most_shift g 126 (raised_most f fraction)))
 
   least : AtLeast ((2 * D + 1) * ((4 * R + 5) * D + 21 * f) * 2 ^ g * (10 * D + 7)) (2 * D * (4 * D * D) * 2 ^ 126 * (10 * D)) (P x) (N x) (2 ^ 149)
-  least = least_uncut x a (rw parts at (least_shift g 126 (raised-least f fraction)))
+  least = least_uncut x a (rw parts at (least_shift g 126 (raised_least f fraction)))
 
   floor : D ≤ R
   floor = le_trans (le_of_eq (sym raised-zero)) (raised_mono (omega arith))
@@ -172,16 +172,16 @@ module _ (x : Float) (a : Accepts x) where
   far_both closed = far R (leb-false ((R + 256 + open_lower) % 512) (open_lower + open_upper) closed)
 
   -- x is at least the whole number before the digits
-  from-whole : is_left_open R ≡ false → g * 2 ^ 149 + N x ≤ P x + 126 * 2 ^ 149 → Rounds x S g
-  from-whole closed from =
+  from_whole : is_left_open R ≡ false → g * 2 ^ 149 + N x ≤ P x + 126 * 2 ^ 149 → Rounds x S g
+  from_whole closed from =
       let (up, down) = far_both closed in
-      let (T, e, away) = below S R (digits-first f) down in
+      let (T, e, away) = below S R (digits_first f) down in
       record {
-        least = digits-first f;
+        least = digits_first f;
         most = digits_last f fraction;
-        over = more_of_more (lit< tt) (over_by R f S (2 ^ g) (2 ^ 126) (raised-top f fraction) fraction up G_pos) least;
-        under = subst (λ (n : ℕ). LessThan (n * 2 ^ g) (2 * 2 ^ 149) (P x) (N x) (2 ^ 149)) (sym e) (less_of_less (lit< tt) (under_by R T (2 ^ g) (2 ^ 126) (raised-top f fraction) away G_pos) most);
-        first = λ c. most_of_less (lit< tt) (at_first S (2 ^ g) (2 ^ 126) c) (whole-most x g from);
+        over = more_of_more (lit< tt) (over_by R f S (2 ^ g) (2 ^ 126) (raised_top f fraction) fraction up G_pos) least;
+        under = subst (λ (n : ℕ). LessThan (n * 2 ^ g) (2 * 2 ^ 149) (P x) (N x) (2 ^ 149)) (sym e) (less_of_less (lit< tt) (under_by R T (2 ^ g) (2 ^ 126) (raised_top f fraction) away G_pos) most);
+        first = λ c. most_of_less (lit< tt) (at_first S (2 ^ g) (2 ^ 126) c) (whole_most x g from);
       }
 
   -- x is below it
@@ -196,19 +196,19 @@ module _ (x : Float) (a : Accepts x) where
       twice = ap (λ (n : ℕ). 2 ^ n) e ∙ pow-add 2 k 1 ∙ mul_comm (2 ^ k) 2
 
       digits : S ≡ 2 ^ 23
-      digits = one-digits R (2 ^ g) (2 ^ 126) floor G_pos (through_power most (whole-least x g to))
+      digits = one_digits R (2 ^ g) (2 ^ 126) floor G_pos (through_power most (whole_least x g to))
 
       rounds : Rounds x (2 ^ 24) k
       rounds = record {
         least = lit≤ tt;
         most = lit≤ tt;
-        over = more_of_more (lit< tt) (half_over (2 ^ k) (2 ^ 126) pos) (subst (λ (n : ℕ). AtLeast n (2 ^ 126) (P x) (N x) (2 ^ 149)) twice (whole-least x g to));
+        over = more_of_more (lit< tt) (half_over (2 ^ k) (2 ^ 126) pos) (subst (λ (n : ℕ). AtLeast n (2 ^ 126) (P x) (N x) (2 ^ 149)) twice (whole_least x g to));
         under = less_of_less (lit< tt) (half_under R (2 ^ k) (2 ^ 126) floor pos) (subst (λ (n : ℕ). AtMost (2 * D * R * n * (10 * D)) ((2 * D + 1) * D * 2 ^ 126 * (10 * D + 7)) (P x) (N x) (2 ^ 149)) twice most);
         first = λ c. absurd (lit_apart c);
       }
 
   pub told : is_left_open R ≡ false → Found x (S * 2 ^ g)
   told closed = elim (le-or-lt (g * 2 ^ 149 + N x) (P x + 126 * 2 ^ 149)) [
-    | inl h ↦ record { S = S; g = g; rounds = from-whole closed h; same = refl }
-    | inr h ↦ below-whole (g - 1) (one-at-least g (P x) (N x) (2 ^ 149) a.at_least h) (le_of_lt h)
+    | inl h ↦ record { S = S; g = g; rounds = from_whole closed h; same = refl }
+    | inr h ↦ below-whole (g - 1) (one-at_least g (P x) (N x) (2 ^ 149) a.at_least h) (le_of_lt h)
   ]

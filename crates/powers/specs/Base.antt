@@ -18,10 +18,10 @@ natural = true
 
 -- n / d ≤ 2 ^ x, or e ^ x: the exponent is x itself, P x - N x units of 2 ^ -149
 pub data PowerAtMost : Base → ℕ → ℕ → Float → Type 0 where
-  most-two : {n d : ℕ} {x : Float} → AtMost n d (P x) (N x) (2 ^ 149) → PowerAtMost two n d x
-  most-natural : {n d : ℕ} {x : Float} → ExpAtMost n d (P x) (N x) (2 ^ 149) → PowerAtMost natural n d x
+  most_two : {n d : ℕ} {x : Float} → AtMost n d (P x) (N x) (2 ^ 149) → PowerAtMost two n d x
+  most_natural : {n d : ℕ} {x : Float} → ExpAtMost n d (P x) (N x) (2 ^ 149) → PowerAtMost natural n d x
 
 -- 2 ^ x, or e ^ x, ≤ n / d
 pub data PowerAtLeast : Base → ℕ → ℕ → Float → Type 0 where
-  least-two : {n d : ℕ} {x : Float} → AtLeast n d (P x) (N x) (2 ^ 149) → PowerAtLeast two n d x
-  least-natural : {n d : ℕ} {x : Float} → ExpAtLeast n d (P x) (N x) (2 ^ 149) → PowerAtLeast natural n d x
+  least_two : {n d : ℕ} {x : Float} → AtLeast n d (P x) (N x) (2 ^ 149) → PowerAtLeast two n d x
+  least_natural : {n d : ℕ} {x : Float} → ExpAtLeast n d (P x) (N x) (2 ^ 149) → PowerAtLeast natural n d x

@@ -19,8 +19,8 @@ TwicePowerAbove x s t = (s < t) ⊎ LessThan (s - t) (2 * 2 ^ 149) (P x) (N x) (
 
 -- r is the float nearest to 2 ^ x: of every other finite float z, 2 ^ x lies on r's side of the middle of r and z. So no float is nearer, and no tie occurs
 pub record NearestPower (x r : Float) : Type 0 where
-  pub from-above : (z : Float) → Number z → Lt r z → TwicePowerBelow x (P r + P z) (N r + N z)
-  pub from-below : (z : Float) → Number z → Lt z r → TwicePowerAbove x (P r + P z) (N r + N z)
+  pub from_above : (z : Float) → Number z → Lt r z → TwicePowerBelow x (P r + P z) (N r + N z)
+  pub from_below : (z : Float) → Number z → Lt z r → TwicePowerAbove x (P r + P z) (N r + N z)
 
 -- r > 0 is within a / b of 2 ^ x, relatively: r / (1 + a / b) ≤ 2 ^ x ≤ r / (1 - a / b)
 pub record NearPower (a b : ℕ) (x r : Float) : Type 0 where

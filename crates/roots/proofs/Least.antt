@@ -12,10 +12,10 @@ module _ (passes : ℕ → Bool) (h : ℕ) (here : passes h ≡ true) (before : 
       ap (λ (j : ℕ). cond (passes j) j (suc j)) e ∙ ap (λ (b : Bool). cond b k (suc k)) (before k l)
 
   -- from h on it stays there
-  pub least-is : (k : ℕ) → h ≤ k → least_passing passes k ≡ h
+  pub least_is : (k : ℕ) → h ≤ k → least_passing passes k ≡ h
   unfolding least_passing
-  least-is zero l = up_to 0 (omega arith) ∙ omega arith
-  least-is (suc k) l = go (eq-or-lt_of_le l) (least-is k)
+  least_is zero l = up_to 0 (omega arith) ∙ omega arith
+  least_is (suc k) l = go (eq-or-lt_of_le l) (least_is k)
     where
       go : (h ≡ suc k) ⊎ (h < suc k) → (h ≤ k → least_passing passes k ≡ h) → least_passing passes (suc k) ≡ h
       go (inl e) rest = up_to (suc k) (le_of_eq (sym e)) ∙ sym e

@@ -3,8 +3,8 @@ use Rattle.std.proofs.Common.{◌≡◌, ℕ, ◌/◌, ◌%◌, ◌<◌, Bool, c
 use lib.Ieee.{Float, binary32, fits, to_bits}
 use Rattle.units.specs.Units.{mag, Number}
 use Rattle.units.proofs.Naturals.{le-or-lt}
-use Rattle.units.proofs.Signs.{sign-plus}
-use Rattle.units.proofs.Patterns.{Shape, packed_of, finite-below, below_infinity, within, beyond}
+use Rattle.units.proofs.Signs.{sign_plus}
+use Rattle.units.proofs.Patterns.{Shape, packed_of, finite_below, below_infinity, within, beyond}
 use Rattle.units.proofs.Between.{sign_clear}
 use Rattle.units.specs.Units.{Positive}
 
@@ -27,19 +27,19 @@ module _ (x : Float) where
   -- and the sign's bit clear, below the infinity's pattern: a finite float above zero
   pub positive : T (fits binary32 x) → 0 < b % 2147483648 → b < 2139095040 → Positive x
   positive f l h =
-      let n = finite-below x f (omega arith) in
+      let n = finite_below x f (omega arith) in
       let k = not-zero n l in
-      record { number = n; sign = sign-plus x (sign_clear x n (omega arith)).1 k; above = k }
+      record { number = n; sign = sign_plus x (sign_clear x n (omega arith)).1 k; above = k }
 
   -- every such float is there
-  pub positive-below : Positive x → b < 2139095040
-  positive-below p =
+  pub positive_below : Positive x → b < 2139095040
+  positive_below p =
       let s : b / 2147483648 ≡ 0 = (packed_of x p.number).top_bit ∙ ap (λ (s : Bool). cond s 1 0) p.sign in
       let l = below_infinity x p.number in
       omega arith
 
-  pub positive-above : Positive x → 0 < b
-  positive-above p = elim (le-or-lt b 0) [
+  pub positive_above : Positive x → 0 < b
+  positive_above p = elim (le-or-lt b 0) [
     | inl l ↦ let (n, e) = zero_is p.number.fits32 (omega arith) in let q = p.above in absurd (omega arith)
     | inr l ↦ l
   ]

@@ -14,10 +14,10 @@ use Rattle.units.proofs.Patterns.{pattern_back}
 use Rattle.units.specs.Units.{Positive}
 use Rattle.fixed.specs.Parts.{Apart, significand, exponent}
 use Rattle.fixed.proofs.Take.{unique, own}
-use Rattle.fixed.proofs.Nearest.{Middle, nearest-above, nearest-below, in_order}
+use Rattle.fixed.proofs.Nearest.{Middle, nearest_above, nearest_below, in_order}
 use Rattle.roots.specs.Rsqrt.{NearestRecip, NearRecipRoot, rsqrt_error_num, rsqrt_error_den, Rsqrt}
 use Rattle.roots.specs.Value.{IsNearRecip, near_recip, parity, turned, rsqrt_bits, rsqrt_of}
-use Rattle.roots.proofs.Least.{least-is, first_passing}
+use Rattle.roots.proofs.Least.{least_is, first_passing}
 
 -- ---- Reduction: the power of two that the significand divides, and the exponent g of the result
 abbrev pub evened : ℕ → ℕ
@@ -42,22 +42,22 @@ one-scaled e h =
 abbrev in_word : ℕ → ℕ
 in_word e = 1 * 2 ^ (8 + parity e) % 4294967296
 
-word-is : (e : ℕ) → in_word e ≡ 2 ^ (8 + parity e)
-word-is e =
+word_is : (e : ℕ) → in_word e ≡ 2 ^ (8 + parity e)
+word_is e =
     let p = 2 ^ (8 + parity e) in
     let h : p ≤ 2 ^ 9 = pow_mono {i = 8 + parity e} {j = 9} (omega arith) in
     mod-eq_of_lt (omega arith) ∙ omega arith
 
-pub word-least : (e : ℕ) → 1 ≤ in_word e
-word-least e = le_trans (pow_pos (8 + parity e)) (le_of_eq (sym (word-is e)))
+pub word_least : (e : ℕ) → 1 ≤ in_word e
+word_least e = le_trans (pow_pos (8 + parity e)) (le_of_eq (sym (word_is e)))
 
-pub word-most : (e : ℕ) → in_word e ≤ 2 ^ 9
-word-most e = le_trans (le_of_eq (word-is e)) (pow_mono {i = 8 + parity e} {j = 9} (omega arith))
+pub word_most : (e : ℕ) → in_word e ≤ 2 ^ 9
+word_most e = le_trans (le_of_eq (word_is e)) (pow_mono {i = 8 + parity e} {j = 9} (omega arith))
 
 pub word_evened : (e : ℕ) → in_word e * 2 ^ 62 ≡ evened e
 word_evened e =
     let k : 8 + parity e + 62 ≡ 70 + parity e = omega arith in
-    ap (λ (n : ℕ). n * 2 ^ 62) (word-is e) ∙ sym (pow-add 2 (8 + parity e) 62) ∙ ap (λ (n : ℕ). 2 ^ n) k
+    ap (λ (n : ℕ). n * 2 ^ 62) (word_is e) ∙ sym (pow-add 2 (8 + parity e) 62) ∙ ap (λ (n : ℕ). 2 ^ n) k
 
 -- ---- Method: sides of a test on m and t, and of the same test on x, are in one proportion. X u² c = m w and B c = t w
 module _ (X m t w c u B : ℕ) (xs : X * (u * u) * c ≡ m * w) (bs : B * c ≡ t * w) where
@@ -112,8 +112,8 @@ high_by m t h b o e k l =
     omega arith
 
 -- ---- Rounding: the digits h, and the float put together from them
-digits-least : (m t h : ℕ) → m < 2 ^ 24 → 2 ^ 70 ≤ t → 4 * t ≤ (2 * h + 1) * (2 * h + 1) * m → 2 ^ 23 ≤ h
-digits-least m t h ml tl l = elim (le-or-lt (2 ^ 23) h) [
+digits_least : (m t h : ℕ) → m < 2 ^ 24 → 2 ^ 70 ≤ t → 4 * t ≤ (2 * h + 1) * (2 * h + 1) * m → 2 ^ 23 ≤ h
+digits_least m t h ml tl l = elim (le-or-lt (2 ^ 23) h) [
   | inl k ↦ k
   | inr k ↦
       let o : 2 * h + 1 ≤ 16777215 = omega arith in
@@ -122,8 +122,8 @@ digits-least m t h ml tl l = elim (le-or-lt (2 ^ 23) h) [
       absurd (not-le_of_lt (lt_of_le_of_lt (le_trans l a) (omega arith)) (mul-le-mul_left 4 tl))
 ]
 
-digits-most : (m t h : ℕ) → 2 ^ 23 ≤ m → t ≤ 2 ^ 71 → (2 * h - 1) * (2 * h - 1) * m < 4 * t → h ≤ 2 ^ 24
-digits-most m t h ml tl l = elim (le-or-lt h (2 ^ 24)) [
+digits_most : (m t h : ℕ) → 2 ^ 23 ≤ m → t ≤ 2 ^ 71 → (2 * h - 1) * (2 * h - 1) * m < 4 * t → h ≤ 2 ^ 24
+digits_most m t h ml tl l = elim (le-or-lt h (2 ^ 24)) [
   | inl k ↦ k
   | inr k ↦
       let o : 33554433 ≤ 2 * h - 1 = omega arith in
@@ -132,16 +132,16 @@ digits-most m t h ml tl l = elim (le-or-lt h (2 ^ 24)) [
 ]
 
 -- at the least significand h is below the number
-first-digits : (m t h : ℕ) → m < 2 ^ 24 → 2 ^ 70 ≤ t → h ≡ 2 ^ 23 → h * h * m ≤ t
-first-digits m t h ml tl e =
+first_digits_lem : (m t h : ℕ) → m < 2 ^ 24 → 2 ^ 70 ≤ t → h ≡ 2 ^ 23 → h * h * m ≤ t
+first_digits_lem m t h ml tl e =
     let a : 8388608 * 8388608 * m ≤ 2 ^ 70 = omega arith in
     le_trans (le_of_eq (ap (λ (n : ℕ). n * n * m) e)) (le_trans a tl)
 
-even-least : (e : ℕ) → 2 ^ 70 ≤ evened e
-even-least e = pow_mono {i = 70} {j = 70 + parity e} (omega arith)
+even_least : (e : ℕ) → 2 ^ 70 ≤ evened e
+even_least e = pow_mono {i = 70} {j = 70 + parity e} (omega arith)
 
-even-most : (e : ℕ) → evened e ≤ 2 ^ 71
-even-most e = pow_mono {i = 70 + parity e} {j = 71} (omega arith)
+even_most : (e : ℕ) → evened e ≤ 2 ^ 71
+even_most e = pow_mono {i = 70 + parity e} {j = 71} (omega arith)
 
 module _ (x : Float) (m e h : ℕ) (p : 0 < mag x) (a : Apart x m e) (near : IsNearRecip (evened e) m h) where
   abbrev g : ℕ
@@ -157,10 +157,10 @@ module _ (x : Float) (m e h : ℕ) (p : 0 < mag x) (a : Apart x m e) (near : IsN
   w = 2 ^ (e + (g + g))
 
   least : 2 ^ 23 ≤ h
-  least = digits-least m t h a.digits (even-least e) near.half_above
+  least = digits_least m t h a.digits (even_least e) near.half_above
 
   most : h ≤ 2 ^ 24
-  most = digits-most m t h a.least (even-most e) near.half_below
+  most = digits_most m t h a.least (even_most e) near.half_below
 
   -- the sides of the tests on x
   squares : (i k : ℕ) → i * (mag x * (k * u * (k * u))) * 2 ^ 24 ≡ i * (k * k * m) * w
@@ -200,7 +200,7 @@ module _ (x : Float) (m e h : ℕ) (p : 0 < mag x) (a : Apart x m e) (near : IsN
     under = below;
     first = λ c s l.
         let d : s * s < 2 * h * u * (2 * h * u) = lt_of_le_of_lt (mul-le-mul_left s (le_of_lt l)) (mul-lt-mul_of_pos_right l (lt_of_le_of_lt zero-le l)) in
-        lt_of_lt_of_le (mul-lt-mul_of_pos_left d p) (twice (first-digits m t h a.digits (even-least e) c));
+        lt_of_lt_of_le (mul-lt-mul_of_pos_left d p) (twice (first_digits_lem m t h a.digits (even_least e) c));
   }
 
   pub pattern_in : g * 8388608 + h < 255 * 8388608
@@ -209,17 +209,17 @@ module _ (x : Float) (m e h : ℕ) (p : 0 < mag x) (a : Apart x m e) (near : IsN
   abbrev result : Float
   result = of_bits binary32 (g * 8388608 + h)
 
-  result-is : Is result false (h * u)
-  result-is = put_positive h g (inr least) most pattern_in
+  result_is : Is result false (h * u)
+  result_is = put_positive h g (inr least) most pattern_in
 
-  result-nearest : NearestRecip x result
-  result-nearest = record {
-    from-above = nearest-above Over Under h g least middle result result-is;
-    from-below = nearest-below Over Under h g least middle result result-is;
+  result_nearest : NearestRecip x result
+  result_nearest = record {
+    from_above = nearest_above Over Under h g least middle result result_is;
+    from_below = nearest_below Over Under h g least middle result result_is;
   }
 
-  result-plus : P result ≡ h * u
-  result-plus = plus_of_lem result result-is.sign ∙ result-is.units
+  result_plus : P result ≡ h * u
+  result_plus = plus_of_lem result result_is.sign ∙ result_is.units
 
   abbrev b : ℕ
   b = rsqrt_error_den
@@ -227,24 +227,24 @@ module _ (x : Float) (m e h : ℕ) (p : 0 < mag x) (a : Apart x m e) (near : IsN
   -- b² h² m ≤ (b + 1)² t
   high : b * b * (h * h * m) ≤ (b + 1) * (b + 1) * t
   high = elim (eq-or-lt_of_le least) [
-    | inl c ↦ mul-le-mul {n₁ = b * b} {n₂ = (b + 1) * (b + 1)} (omega arith) (first-digits m t h a.digits (even-least e) (sym c))
+    | inl c ↦ mul-le-mul {n₁ = b * b} {n₂ = (b + 1) * (b + 1)} (omega arith) (first_digits_lem m t h a.digits (even_least e) (sym c))
     | inr c ↦ high_by m t h b (2 * h - 1) (omega arith) (omega arith) (le_of_lt near.half_below)
   ]
 
-  result-near : NearRecipRoot rsqrt_error_num b x result
-  result-near =
+  result_near : NearRecipRoot rsqrt_error_num b x result
+  result_near =
       let l = least in
       record {
-        above_zero = rw result-plus (mul-pos (lt_of_lt_of_le (pow_pos 23) l) (pow_pos g));
-        at_least = rw result-plus (proportion_le (2 ^ 24) w (ones ((b - 1) * (b - 1))) (squares (b * b) h) (pow_pos 24) (low_by m t h (b - 1) (omega arith) near.half_above));
-        at_most = rw result-plus (proportion_le (2 ^ 24) w (squares (b * b) h) (ones ((b + 1) * (b + 1))) (pow_pos 24) high);
+        above_zero = rw result_plus (mul-pos (lt_of_lt_of_le (pow_pos 23) l) (pow_pos g));
+        at_least = rw result_plus (proportion_le (2 ^ 24) w (ones ((b - 1) * (b - 1))) (squares (b * b) h) (pow_pos 24) (low_by m t h (b - 1) (omega arith) near.half_above));
+        at_most = rw result_plus (proportion_le (2 ^ 24) w (squares (b * b) h) (ones ((b + 1) * (b + 1))) (pow_pos 24) high);
       }
 
 -- ---- the value function: of every significand there is a nearest reciprocal root, and one only
 near_recip_lem : (t m h : ℕ) → h ≤ 2 ^ 24 → IsNearRecip t m h → near_recip t m ≡ h
 unfolding near_recip
 near_recip_lem t m h top n =
-    least-is (λ (q : ℕ). leb (4 * t) ((2 * q + 1) * (2 * q + 1) * m)) h (le-leb (4 * t) ((2 * h + 1) * (2 * h + 1) * m) n.half_above)
+    least_is (λ (q : ℕ). leb (4 * t) ((2 * q + 1) * (2 * q + 1) * m)) h (le-leb (4 * t) ((2 * h + 1) * (2 * h + 1) * m) n.half_above)
     (λ j l. lt-leb (4 * t) ((2 * j + 1) * (2 * j + 1) * m) (before j l)) (2 ^ 25) (omega arith)
   where
     before : (j : ℕ) → j < h → (2 * j + 1) * (2 * j + 1) * m < 4 * t
@@ -283,7 +283,7 @@ rsqrt_bits_lem x m e h p a n =
 module _ (x : Float) (p : Positive x) where
   accepted : (rsqrt_bits x < 255 * 8388608) × NearestRecip x (rsqrt_of x) × NearRecipRoot rsqrt_error_num rsqrt_error_den x (rsqrt_of x) × Number (rsqrt_of x)
   unfolding rsqrt_of
-  accepted = go (near_exists t m (lt_of_lt_of_le a.digits (le_trans (omega arith) (mul-le-mul_left 4 (even-least e)))) (even-most e) a.least)
+  accepted = go (near_exists t m (lt_of_lt_of_le a.digits (le_trans (omega arith) (mul-le-mul_left 4 (even_least e)))) (even_most e) a.least)
     where
       m : ℕ
       m = significand x
@@ -298,7 +298,7 @@ module _ (x : Float) (p : Positive x) where
       a = own x p
 
       go : (h : ℕ) × IsNearRecip t m h → (rsqrt_bits x < 255 * 8388608) × NearestRecip x (of_bits binary32 (rsqrt_bits x)) × NearRecipRoot rsqrt_error_num rsqrt_error_den x (of_bits binary32 (rsqrt_bits x)) × Number (of_bits binary32 (rsqrt_bits x))
-      go (h, n) = rw (rsqrt_bits_lem x m e h p.above a n) (pattern_in x m e h p.above a n, result-nearest x m e h p.above a n, result-near x m e h p.above a n, (result-is x m e h p.above a n).number)
+      go (h, n) = rw (rsqrt_bits_lem x m e h p.above a n) (pattern_in x m e h p.above a n, result_nearest x m e h p.above a n, result_near x m e h p.above a n, (result_is x m e h p.above a n).number)
 
 -- ---- Order: the middle of two results lies on one side only
 rsqrt_order : (x : Float) → Positive x → (x' : Float) → Positive x' → Le x' x → Le (rsqrt_of x) (rsqrt_of x')
@@ -308,7 +308,7 @@ rsqrt_order x p x' p' l =
     let units : mag x' ≤ mag x = omega (arith, plus_of_lem x p.sign, minus_of_lem x p.sign, plus_of_lem x' p'.sign, minus_of_lem x' p'.sign) in
     in_order (λ s. 4 * 2 ^ 447 < mag x' * (s * s)) (λ s. mag x * (s * s) < 4 * 2 ^ 447)
     (λ s b c. not-le_of_lt (lt_trans c b) (mul-le-mul_right (s * s) units))
-    (rsqrt_of x') (rsqrt_of x) (n'.from-above (rsqrt_of x) h) (n.from-below (rsqrt_of x') h')
+    (rsqrt_of x') (rsqrt_of x) (n'.from_above (rsqrt_of x) h) (n.from_below (rsqrt_of x') h')
 
 -- ---- the whole promise, of an accepted x and of any other
 

@@ -6,17 +6,17 @@ use lib.Ieee.{Float, binary32, of_bits, to_bits}
 use Rattle.units.specs.Units.{mag, P, N, Number, Le}
 use Rattle.units.proofs.Naturals.{le-or-lt}
 use Rattle.units.specs.Answers.{Ends, float_bits}
-use Rattle.units.proofs.Signs.{size-sum, sign-plus, minus_of_lem}
+use Rattle.units.proofs.Signs.{size-sum, sign_plus, minus_of_lem}
 use Rattle.units.proofs.Answers.{given, declined, written, untouched}
 use Rattle.units.proofs.Bits.{Is, put_positive, no_nan_positive}
 use Rattle.units.proofs.Patterns.{pattern_back}
 use Rattle.units.specs.Units.{Positive}
 use Rattle.fixed.specs.Parts.{Apart, significand, exponent}
 use Rattle.fixed.proofs.Take.{unique, own}
-use Rattle.fixed.proofs.Nearest.{Middle, nearest-above, nearest-below, in_order}
+use Rattle.fixed.proofs.Nearest.{Middle, nearest_above, nearest_below, in_order}
 use Rattle.roots.specs.Sqrt.{Accepts, NearestRoot, Sqrt}
 use Rattle.roots.specs.Value.{IsNear, near_root, shifted, radicand, halved, sqrt_bits, sqrt_of}
-use Rattle.roots.proofs.Least.{least-is}
+use Rattle.roots.proofs.Least.{least_is}
 
 -- ---- Reduction: the digits n that the root is taken of, and the exponent g of the result. n is x, in steps of the square of the result's step
 scaled : (x : Float) (m e : ℕ) → Apart x m e → radicand m e * (2 ^ halved e * 2 ^ halved e) ≡ mag x * 2 ^ 149
@@ -67,14 +67,14 @@ first_by n S u B s e h l =
     omega arith
 
 -- S has 24 digits, since n has 47 or 48
-digits-least : (n S : ℕ) → 2 ^ 46 ≤ n → n ≤ S * S + S → 2 ^ 23 ≤ S
-digits-least n S h l = elim (le-or-lt (2 ^ 23) S) [
+digits_least : (n S : ℕ) → 2 ^ 46 ≤ n → n ≤ S * S + S → 2 ^ 23 ≤ S
+digits_least n S h l = elim (le-or-lt (2 ^ 23) S) [
   | inl k ↦ k
   | inr k ↦ let b : S ≤ 8388607 = omega arith in let a : S * S ≤ 8388607 * 8388607 = mul-le-mul b b in absurd (not-le_of_lt (lt_of_le_of_lt l (omega arith)) h)
 ]
 
-digits-most : (n S : ℕ) → n < 2 ^ 48 → S * S < n + S → S ≤ 2 ^ 24
-digits-most n S h l = elim (le-or-lt S (2 ^ 24)) [
+digits_most : (n S : ℕ) → n < 2 ^ 48 → S * S < n + S → S ≤ 2 ^ 24
+digits_most n S h l = elim (le-or-lt S (2 ^ 24)) [
   | inl k ↦ k
   | inr k ↦ let a : 16777217 * S ≤ S * S = mul-le-mul_right S k in absurd (not-le_of_lt l (omega arith))
 ]
@@ -88,7 +88,7 @@ module _ (x : Float) (m e S : ℕ) (a : Apart x m e) (near : IsNear (radicand m 
   n = radicand m e
 
   least : 2 ^ 23 ≤ S
-  least = digits-least n S (many x m e a) near.half_above
+  least = digits_least n S (many x m e a) near.half_above
 
   abbrev Over : ℕ → Type 0
   Over s = 4 * (mag x * 2 ^ 149) < s * s
@@ -116,25 +116,25 @@ module _ (x : Float) (m e S : ℕ) (a : Apart x m e) (near : IsNear (radicand m 
   pub pattern_in : g * 8388608 + S < 255 * 8388608
   pattern_in =
       let h = a.high in
-      let t = digits-most n S (few x m e a) near.half_below in
+      let t = digits_most n S (few x m e a) near.half_below in
       omega arith
 
   abbrev result : Float
   result = of_bits binary32 (g * 8388608 + S)
 
-  result-is : Is result false (S * 2 ^ g)
-  result-is = put_positive S g (inr least) (digits-most n S (few x m e a) near.half_below) pattern_in
+  result_is : Is result false (S * 2 ^ g)
+  result_is = put_positive S g (inr least) (digits_most n S (few x m e a) near.half_below) pattern_in
 
-  result-nearest : NearestRoot x result
-  result-nearest = record {
-    from-above = nearest-above Over Under S g least middle result result-is;
-    from-below = nearest-below Over Under S g least middle result result-is;
+  result_nearest : NearestRoot x result
+  result_nearest = record {
+    from_above = nearest_above Over Under S g least middle result result_is;
+    from_below = nearest_below Over Under S g least middle result result_is;
   }
 
 -- ---- the value function: of every number there is a nearest root, and one only
-pub near-root : (n S : ℕ) → 1 < S → IsNear n S → near_root n ≡ S
+pub near_root_lem : (n S : ℕ) → 1 < S → IsNear n S → near_root n ≡ S
 unfolding near_root
-near-root n S two h = least-is (λ (q : ℕ). leb n (q * q + q)) S (le-leb n (S * S + S) h.half_above) (λ j l. lt-leb n (j * j + j) (before j l)) n small
+near_root_lem n S two h = least_is (λ (q : ℕ). leb n (q * q + q)) S (le-leb n (S * S + S) h.half_above) (λ j l. lt-leb n (j * j + j) (before j l)) n small
   where
     before : (j : ℕ) → j < S → j * j + j < n
     before j l =
@@ -168,7 +168,7 @@ sqrt_bits_lem x m e S a h =
     let (i, j) = unique x m e a in
     let l = least x m e S a h in
     let two : 1 < S = omega arith in
-    rw (← i, ← j, near-root (radicand m e) S two h)
+    rw (← i, ← j, near_root_lem (radicand m e) S two h)
 
 -- ---- above zero
 module _ (x : Float) (p : Positive x) where
@@ -191,15 +191,15 @@ module _ (x : Float) (p : Positive x) where
 
       go : (S : ℕ) × IsNear (radicand m e) S → (sqrt_bits x < 255 * 8388608) × NearestRoot x (sqrt_of x) × Number (sqrt_of x)
       go (S, h) =
-          rw (sqrt_above, sqrt_bits_lem x m e S a h) (pattern_in x m e S a h, result-nearest x m e S a h, (result-is x m e S a h).number)
+          rw (sqrt_above, sqrt_bits_lem x m e S a h) (pattern_in x m e S a h, result_nearest x m e S a h, (result_is x m e S a h).number)
 
 -- ---- zero is its own root
-zero-nearest : (x : Float) → mag x ≡ 0 → NearestRoot x x
-zero-nearest x e = record {
-  from-above = λ z h l.
+zero_nearest : (x : Float) → mag x ≡ 0 → NearestRoot x x
+zero_nearest x e = record {
+  from_above = λ z h l.
       let d : 0 < P x + P z - (N x + N z) = omega (arith, size-sum x) in
       (omega (arith, size-sum x), lt_of_le_of_lt (le_of_eq (ap (λ (n : ℕ). 4 * (n * 2 ^ 149)) e ∙ ap (λ (n : ℕ). 4 * n) (zero-mul (2 ^ 149)))) (mul-pos d d));
-  from-below = λ z h l. inl (omega (arith, size-sum x));
+  from_below = λ z h l. inl (omega (arith, size-sum x));
 }
 
 sqrt_zero : (x : Float) → mag x ≡ 0 → sqrt_of x ≡ x
@@ -207,30 +207,30 @@ unfolding sqrt_of
 sqrt_zero x e = rw (eq-eqb (mag x) 0 e)
 
 pub above_zero : (x : Float) → Accepts x → 0 < mag x → Positive x
-above_zero x a h = record { number = a.number; sign = sign-plus x a.at-least-zero h; above = h }
+above_zero x a h = record { number = a.number; sign = sign_plus x a.at_least_zero h; above = h }
 
 -- of every accepted x the value function is the nearest float, and a finite one
 accepted : (x : Float) → Accepts x → NearestRoot x (sqrt_of x) × Number (sqrt_of x)
 accepted x a = elim (le-or-lt (mag x) 0) [
   | inl z ↦
       let e : mag x ≡ 0 = omega arith in
-      subst (λ (r : Float). NearestRoot x r × Number r) (sym (sqrt_zero x e)) (zero-nearest x e, a.number)
+      subst (λ (r : Float). NearestRoot x r × Number r) (sym (sqrt_zero x e)) (zero_nearest x e, a.number)
   | inr h ↦ let (b, n, k) = sqrt_positive x (above_zero x a h) in (n, k)
 ]
 
 -- ---- Order: the middle of two results lies on one side only
-nearest-order : (x x' r r' : Float) → Number r → Number r' → NearestRoot x r → NearestRoot x' r' → mag x' ≤ mag x → Le r' r
-nearest-order x x' r r' h h' n n' l =
+nearest_order : (x x' r r' : Float) → Number r → Number r' → NearestRoot x r → NearestRoot x' r' → mag x' ≤ mag x → Le r' r
+nearest_order x x' r r' h h' n n' l =
     in_order (λ s. 4 * (mag x * 2 ^ 149) < s * s) (λ s. s * s < 4 * (mag x' * 2 ^ 149))
     (λ s a b. not-le_of_lt (lt_trans a b) (mul-le-mul_left 4 (mul-le-mul_right (2 ^ 149) l)))
-    r r' (n.from-above r' h') (n'.from-below r h)
+    r r' (n.from_above r' h') (n'.from_below r h)
 
 in_units : (x x' : Float) → Accepts x → Accepts x' → Le x' x → mag x' ≤ mag x
-in_units x x' a a' l = omega (arith, size-sum x, size-sum x', a.at-least-zero, a'.at-least-zero)
+in_units x x' a a' l = omega (arith, size-sum x, size-sum x', a.at_least_zero, a'.at_least_zero)
 
 sqrt_order : (x : Float) → Accepts x → (x' : Float) → Accepts x' → Le x' x → Le (sqrt_of x') (sqrt_of x)
 sqrt_order x a x' a' l =
-    nearest-order x x' (sqrt_of x) (sqrt_of x') (accepted x a).1 (accepted x' a').1 (accepted x a).0 (accepted x' a').0 (in_units x x' a a' l)
+    nearest_order x x' (sqrt_of x) (sqrt_of x') (accepted x a).1 (accepted x' a').1 (accepted x a).0 (accepted x' a').0 (in_units x x' a a' l)
 
 -- ---- the whole promise, of an accepted x and of any other
 
@@ -255,13 +255,13 @@ refused x n = record {
 -- ---- how the call ends
 
 -- a zero's own pattern is written
-pub success-zero : (x : Float) {before after : ℕ} → Number x → mag x ≡ 0 → after ≡ to_bits binary32 x → Ends float_bits (Sqrt x) 0 before after
-success-zero x n z e = written (sqrt_of x) (promised x (record { number = n; at-least-zero = omega (arith, size-sum x) })) (rw (sqrt_zero x z) e)
+pub success_zero : (x : Float) {before after : ℕ} → Number x → mag x ≡ 0 → after ≡ to_bits binary32 x → Ends float_bits (Sqrt x) 0 before after
+success_zero x n z e = written (sqrt_of x) (promised x (record { number = n; at_least_zero = omega (arith, size-sum x) })) (rw (sqrt_zero x z) e)
 
 -- the pattern of the root
 pub success : (x : Float) {before after : ℕ} → Positive x → after ≡ sqrt_bits x → Ends float_bits (Sqrt x) 0 before after
 success x p e =
-    written (sqrt_of x) (promised x (record { number = p.number; at-least-zero = minus_of_lem x p.sign }))
+    written (sqrt_of x) (promised x (record { number = p.number; at_least_zero = minus_of_lem x p.sign }))
     (rw (sqrt_above x p) (e ∙ sym (pattern_back _ (omega (arith, (sqrt_positive x p).0)) (no_nan_positive _ (sqrt_positive x p).0))))
 
 -- nothing is written

@@ -19,8 +19,8 @@ TwiceRecipAbove X s t = (s < t) ⊎ (X * ((s - t) * (s - t)) < 4 * 2 ^ 447)
 
 -- r is the float nearest to 1 / √x: of every other finite float z, 1 / √x lies on r's side of the middle of r and z. So no float is nearer, and no tie occurs
 pub record NearestRecip (x r : Float) : Type 0 where
-  pub from-above : (z : Float) → Number z → Lt r z → TwiceRecipBelow (mag x) (P r + P z) (N r + N z)
-  pub from-below : (z : Float) → Number z → Lt z r → TwiceRecipAbove (mag x) (P r + P z) (N r + N z)
+  pub from_above : (z : Float) → Number z → Lt r z → TwiceRecipBelow (mag x) (P r + P z) (N r + N z)
+  pub from_below : (z : Float) → Number z → Lt z r → TwiceRecipAbove (mag x) (P r + P z) (N r + N z)
 
 -- r > 0 is within a / b of 1 / √x, relatively: (1 - a/b)² ≤ x r² ≤ (1 + a/b)²
 pub record NearRecipRoot (a b : ℕ) (x r : Float) : Type 0 where

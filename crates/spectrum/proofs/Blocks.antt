@@ -26,8 +26,8 @@ module _ (l₀ l₁ l₂ : List ℕ) (h : ℕ) (fits : h ≤ length l₀) (e₁ 
   abbrev pub twice : List ℕ
   twice = put_mid h (length once - h) once l₂
 
-  pub first-length : length l₁ ≡ h
-  first-length = e₁ ∙ length-take-le h l₀ fits
+  pub first_length : length l₁ ≡ h
+  first_length = e₁ ∙ length-take-le h l₀ fits
 
   pub once_length : length once ≡ length l₀
   once_length = length_front l₀ l₁ h e₁
@@ -36,18 +36,18 @@ module _ (l₀ l₁ l₂ : List ℕ) (h : ℕ) (fits : h ≤ length l₀) (e₁ 
     pub twice_length : length twice ≡ length l₀
     twice_length = same_len_mid h (length once - h) once l₂ e₂ ∙ once_length
 
-    pub second-length : length l₂ ≡ length l₀ - h
-    second-length =
+    pub second_length : length l₂ ≡ length l₀ - h
+    second_length =
         e₂ ∙ length-take-le (length once - h) (drop h once) (le_of (sym (length-drop h once))) ∙ ap (λ (n : ℕ). n - h) once_length
       where
         le_of : {a b : ℕ} → a ≡ b → a ≤ b
         le_of e = omega arith
 
-    pub first-four : (x : ℕ) → length l₀ ≡ 8 * x → h ≡ length l₀ / 2 → length l₁ ≡ 4 * x
-    first-four x e f = omega (arith, first-length)
+    pub first_four : (x : ℕ) → length l₀ ≡ 8 * x → h ≡ length l₀ / 2 → length l₁ ≡ 4 * x
+    first_four x e f = omega (arith, first_length)
 
-    pub second-four : (x : ℕ) → length l₀ ≡ 8 * x → h ≡ length l₀ / 2 → length l₂ ≡ 4 * x
-    second-four x e f = omega (arith, second-length)
+    pub second_four : (x : ℕ) → length l₀ ≡ 8 * x → h ≡ length l₀ / 2 → length l₂ ≡ 4 * x
+    second_four x e f = omega (arith, second_length)
 
     taken : length (take h once) ≡ h
     taken = length-take-le h once (omega (arith, once_length))
@@ -55,7 +55,7 @@ module _ (l₀ l₁ l₂ : List ℕ) (h : ℕ) (fits : h ≤ length l₀) (e₁ 
     pub first_half : (i : ℕ) → i < h → get_or twice i 0 ≡ get_or l₁ i 0
     first_half i l =
         get_or-append (take h once) (l₂ ++ drop (length once - h) (drop h once)) 0 i (omega (arith, taken))
-        ∙ get_or-take h once i 0 l ∙ get_or-append l₁ (drop h l₀) 0 i (omega (arith, first-length))
+        ∙ get_or-take h once i 0 l ∙ get_or-append l₁ (drop h l₀) 0 i (omega (arith, first_length))
 
     pub second_half : (i : ℕ) → i < length l₂ → get_or twice (h + i) 0 ≡ get_or l₂ i 0
     second_half i l =
@@ -254,12 +254,12 @@ pub stride_most : {y : List ℕ} {off st n : ℕ} → Fillable y off st n → st
 stride_most {st = st} f = omega (arith, mul-le-mul_right st (pow_pos f.s), f.apart)
 
 -- a block has at most 128 words
-pub quarter-most : (g st : ℕ) → g * st ≡ 32 → g ≤ 32
-quarter-most g zero e = absurd (omega arith)
-quarter-most g (suc st) e = omega arith
+pub quarter_most : (g st : ℕ) → g * st ≡ 32 → g ≤ 32
+quarter_most g zero e = absurd (omega arith)
+quarter_most g (suc st) e = omega arith
 
-pub words-most : {y : List ℕ} {off st n : ℕ} → Fillable y off st n → n ≤ 128
-words-most {st = st} f = omega (arith, quarter-most (2 ^ f.s) st f.apart, f.size)
+pub words_most : {y : List ℕ} {off st n : ℕ} → Fillable y off st n → n ≤ 128
+words_most {st = st} f = omega (arith, quarter_most (2 ^ f.s) st f.apart, f.size)
 
 pub some_words : (l : List ℕ) (x : ℕ) → length l ≡ 8 * x → 0 < x → 1 ≤ length l / 2 / 2
 some_words l x e p = omega arith
@@ -270,13 +270,13 @@ around l x st e f = omega (arith, ap (λ (z : ℕ). z * st) (quarter x e))
     quarter : (x : ℕ) → length l ≡ 8 * x → length l / 2 / 2 ≡ 2 * x
     quarter x e = omega arith
 
-pub four-times : (l : List ℕ) (x : ℕ) → length l ≡ 8 * x → length l ≡ 4 * (length l / 2 / 2)
-four-times l x e = omega arith
+pub four_times : (l : List ℕ) (x : ℕ) → length l ≡ 8 * x → length l ≡ 4 * (length l / 2 / 2)
+four_times l x e = omega arith
 
 module _ (l l₁ l₂ : List ℕ) (h : ℕ) (fits : h ≤ length l) (e₁ : length l₁ ≡ length (take h l)) (e₂ : length l₂ ≡ length (mid_of h (length (once l l₁ l₂ h fits e₁) - h) (once l l₁ l₂ h fits e₁))) where
   pub all_inside : (x : ℕ) → length l ≡ 8 * x → ((i : ℕ) → i < length l₁ → Inside (get_or l₁ i 0)) → ((i : ℕ) → i < length l₂ → Inside (get_or l₂ i 0)) → (i : ℕ) → i < 4 * (length l / 2 / 2) → Inside (get_or (twice l l₁ l₂ h fits e₁) i 0)
   all_inside x e a b i m = elim (le-or-lt h i) [
-    | inr o ↦ subst Inside (sym (first_half l l₁ l₂ h fits e₁ e₂ i o)) (a i (omega (arith, first-length l l₁ l₂ h fits e₁)))
+    | inr o ↦ subst Inside (sym (first_half l l₁ l₂ h fits e₁ e₂ i o)) (a i (omega (arith, first_length l l₁ l₂ h fits e₁)))
     | inl o ↦ subst (λ (j : ℕ). Inside (get_or (twice l l₁ l₂ h fits e₁) j 0)) (back o) (subst Inside (sym (second_half l l₁ l₂ h fits e₁ e₂ (i - h) (rest o))) (b (i - h) (rest o)))
   ]
     where
@@ -284,4 +284,4 @@ module _ (l l₁ l₂ : List ℕ) (h : ℕ) (fits : h ≤ length l) (e₁ : leng
       back o = omega arith
 
       rest : h ≤ i → i - h < length l₂
-      rest o = omega (arith, second-length l l₁ l₂ h fits e₁ e₂)
+      rest o = omega (arith, second_length l l₁ l₂ h fits e₁ e₂)

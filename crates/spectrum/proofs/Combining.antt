@@ -39,14 +39,14 @@ module _ (g st : ℕ) where
       same : (i : ℕ) → k ≤ i → i + k ≤ 2 * g → f i ≡ r i
       same i m n = sym (a.low i m n)
 
-      same-high : (i : ℕ) → 2 * g + k ≤ i → i + k ≤ 4 * g → f i ≡ r i
-      same-high i m n = sym (a.high i m n)
+      same_high : (i : ℕ) → 2 * g + k ≤ i → i + k ≤ 4 * g → f i ≡ r i
+      same_high i m n = sym (a.high i m n)
 
-      at-k : Butterfly (k * st) (f k) (f (2 * g - k)) (f (2 * g + k)) (f (4 * g - k)) (r' k) (r' (2 * g - k)) (r' (2 * g + k)) (r' (4 * g - k))
-      at-k = moved w.wings (same k (omega arith) (omega arith)) (same (2 * g - k) (omega arith) (omega arith)) (same-high (2 * g + k) (omega arith) (omega arith)) (same-high (4 * g - k) (omega arith) (omega arith)) refl refl refl refl
+      at_k : Butterfly (k * st) (f k) (f (2 * g - k)) (f (2 * g + k)) (f (4 * g - k)) (r' k) (r' (2 * g - k)) (r' (2 * g + k)) (r' (4 * g - k))
+      at_k = moved w.wings (same k (omega arith) (omega arith)) (same (2 * g - k) (omega arith) (omega arith)) (same_high (2 * g + k) (omega arith) (omega arith)) (same_high (4 * g - k) (omega arith) (omega arith)) refl refl refl refl
 
       new : (j : ℕ) → j ≡ k → Butterfly (j * st) (f j) (f (2 * g - j)) (f (2 * g + j)) (f (4 * g - j)) (r' j) (r' (2 * g - j)) (r' (2 * g + j)) (r' (4 * g - j))
-      new j e = rw e at-k
+      new j e = rw e at_k
 
       left : (i : ℕ) → ¬ (i ≡ k) → ¬ (i ≡ 2 * g - k) → ¬ (i ≡ 2 * g + k) → ¬ (i ≡ 4 * g - k) → r' i ≡ r i
       left i = w.others i

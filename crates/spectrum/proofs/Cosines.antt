@@ -11,8 +11,8 @@ use lib.Pow.{pow_pos}
 use Rattle.units.proofs.Naturals.{le-or-lt}
 use Rattle.exact.specs.Series.{partial, denominator, fourth, LimitNear}
 use Rattle.exact.specs.Circle.{QuarterTurn}
-use Rattle.exact.proofs.Series.{over_pos, partial_grows, partial_tail, fourth-most}
-use Rattle.exact.proofs.Limits.{Both, both_wider, cosine_of_lem, sine-plus}
+use Rattle.exact.proofs.Series.{over_pos, partial_grows, partial_tail, fourth_most}
+use Rattle.exact.proofs.Limits.{Both, both_wider, cosine_of_lem, sine_plus}
 use Rattle.exact.specs.Circle.{quarter, quarter_unit}
 use Rattle.exact.proofs.Quarter.{quarter-unit_pos}
 use Rattle.exact.proofs.Zero.{quarter_turn, enclosed}
@@ -32,7 +32,7 @@ later : (r s e a d p q n : ℕ) → 0 < q → 2 * p ≤ suc n * q → T (settled
 unfolding settled
 later r s e a d p q n pos halve t m l =
     le_of_mul-le-mul_right
-    (through _ _ _ _ _ _ _ (leb→le _ _ t) (partial_tail (fourth r) (fourth-most r) p q n m halve l) (partial_grows (fourth s) p q n m l)) (over_pos q n pos)
+    (through _ _ _ _ _ _ _ (leb→le _ _ t) (partial_tail (fourth r) (fourth_most r) p q n m halve l) (partial_grows (fourth s) p q n m l)) (over_pos q n pos)
   where
     through : (R S o R' S' o' t : ℕ) → e * (R + t) + a * o ≤ e * S + d * o → R' * o ≤ (R + t) * o' → S * o' ≤ S' * o → (e * R' + a * o') * o ≤ (e * S' + d * o') * o
     through R S o R' S' o' t x y z = omega (arith, mul-le-mul_right o' x, mul-le-mul_left e y, mul-le-mul_left e z)
@@ -101,12 +101,12 @@ whole_turn f t t' j l = elim (le-or-lt 64 j) [ inl h ↦ subst (λ (k : ℕ). T 
 q_pos : 0 < q
 q_pos = mul-pos quarter-unit_pos (lit< tt)
 
-quarter-most : quarter ≤ 2 * quarter_unit
+quarter_most : quarter ≤ 2 * quarter_unit
 unfolding quarter quarter_unit
-quarter-most = leb→le quarter (2 * quarter_unit) tt
+quarter_most = leb→le quarter (2 * quarter_unit) tt
 
 halves : (j : ℕ) → j < 128 → 2 * (quarter * j) ≤ 48 * q
-halves j l = through quarter quarter_unit quarter-most
+halves j l = through quarter quarter_unit quarter_most
   where
     through : (Q W : ℕ) → Q ≤ 2 * W → 2 * (Q * j) ≤ 48 * (W * 32)
     through Q W h = omega (arith, mul-le-mul h (few l))
@@ -133,7 +133,7 @@ own_table = record {
   quarter = quarter_turn;
   narrow = unfold quarter_unit in lit≤ tt;
   cosine = λ j l. cosine_of_lem {p = quarter * j} {m = 0} (subst (λ (p : ℕ). Both p q (cosine_below j).plus (cosine_below j).minus (sine_below j).plus (sine_below j).minus unit 1 (2 ^ 60)) (sym (add-zero (quarter * j))) (both_wider (pow_pos 61) (lit≤ tt) (near j l)));
-  sine = λ j l. sine-plus (both_wider (pow_pos 61) (lit≤ tt) (near j l));
+  sine = λ j l. sine_plus (both_wider (pow_pos 61) (lit≤ tt) (near j l));
 }
 
 -- ---- by any enclosure of pi / 2, within 2 ^ -60 and what is left open
@@ -227,4 +227,4 @@ module _ (c s : ℕ → Difference) (u : ℕ) (t : Turns c s u) (j : ℕ) (few :
   pub table_sine : Close (8 * u) (times (whole u) (sine_below j)) (times (whole unit) (s j))
   table_sine =
       close (sine_below j).plus (sine_below j).minus (s j).plus (s j).minus
-      (agree (λ n. over_pos W n wpos) (sine-plus (any_near t.q t.d t.w t.wide t.quarter j few)).near (t.sine j few).near)
+      (agree (λ n. over_pos W n wpos) (sine_plus (any_near t.q t.d t.w t.wide t.quarter j few)).near (t.sine j few).near)

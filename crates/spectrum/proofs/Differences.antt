@@ -52,10 +52,10 @@ pub distributed : (a b c : Difference) → Close 0 (times a (add b c)) (add (tim
 distributed a b c = record { most = omega arith; least = omega arith }
 
 -- ---- sums
-pub total-same : (f g : ℕ → Difference) (n : ℕ) → ((i : ℕ) → f i ≡ g i) → total f n ≡ total g n
+pub total_same : (f g : ℕ → Difference) (n : ℕ) → ((i : ℕ) → f i ≡ g i) → total f n ≡ total g n
 unfolding total
-total-same f g zero h = refl
-total-same f g (suc n) h = ap₂ add (total-same f g n h) (h n)
+total_same f g zero h = refl
+total_same f g (suc n) h = ap₂ add (total_same f g n h) (h n)
 
 pub total_close : (e : ℕ) (f g : ℕ → Difference) (n : ℕ) → ((i : ℕ) → i < n → Close e (f i) (g i)) → Close (n * e) (total f n) (total g n)
 unfolding total

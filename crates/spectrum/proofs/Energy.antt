@@ -39,10 +39,10 @@ pub one-square : (d a w u : ℕ) → 2 ^ 42 * d ≤ 2 ^ 18 * a + (w + 2 ^ 41 * u
 one-square d a w u h = omega (arith, three (2 ^ 42 * d) (2 ^ 18 * a) w (2 ^ 41 * u) h)
 
 -- ---- sums
-sum-most : (A B C : ℕ) (f g : ℕ → ℕ) (n : ℕ) → ((k : ℕ) → k < n → A * f k ≤ B * g k + C) → A * sum_of f n ≤ B * sum_of g n + n * C
+sum_most : (A B C : ℕ) (f g : ℕ → ℕ) (n : ℕ) → ((k : ℕ) → k < n → A * f k ≤ B * g k + C) → A * sum_of f n ≤ B * sum_of g n + n * C
 unfolding sum_of
-sum-most A B C f g zero h = omega arith
-sum-most A B C f g (suc n) h = omega (arith, sum-most A B C f g n (λ k l. h k (omega arith)), h n (omega arith))
+sum_most A B C f g zero h = omega arith
+sum_most A B C f g (suc n) h = omega (arith, sum_most A B C f g n (λ k l. h k (omega arith)), h n (omega arith))
 
 -- the largest of some numbers, and its square
 record Top (f : ℕ → ℕ) (n : ℕ) : Type 0 where
@@ -136,8 +136,8 @@ module _ (R I : ℕ → Difference) (dr di : ℕ → ℕ) (u M : ℕ) (by : (q :
   abbrev T : ℕ
   T = sum_of (λ k. square (size (R k)) + square (size (I k))) 65
 
-  w-most : square (u * M) ≤ 131072 * T
-  w-most =
+  w_most : square (u * M) ≤ 131072 * T
+  w_most =
       let a = top (λ k. size (R k)) 65 in
       let b = top (λ k. size (I k)) 65 in
       let h = by (a.q + b.q) (λ k l. le_trans (a.most k (omega arith)) (omega arith)) (λ k l. le_trans (b.most k (omega arith)) (omega arith)) in
@@ -156,4 +156,4 @@ module _ (R I : ℕ → Difference) (dr di : ℕ → ℕ) (u M : ℕ) (by : (q :
       sums a b x y c h g = omega arith
 
   pub energy : 10 ^ 14 * sum_of (λ k. square (dr k) + square (di k)) 65 ≤ T + 10 ^ 14 * (64 * square u)
-  energy = final (10 ^ 14) _ T (square u) (square (u * M)) (lit≤ tt) w-most (sum-most (480 * 2 ^ 84) (1056 * 2 ^ 36) (2 * (14960 * square (u * M) + 935 * 2 ^ 82 * square u)) (λ k. square (dr k) + square (di k)) (λ k. square (size (R k)) + square (size (I k))) 65 each)
+  energy = final (10 ^ 14) _ T (square u) (square (u * M)) (lit≤ tt) w_most (sum_most (480 * 2 ^ 84) (1056 * 2 ^ 36) (2 * (14960 * square (u * M) + 935 * 2 ^ 82 * square u)) (λ k. square (dr k) + square (di k)) (λ k. square (size (R k)) + square (size (I k))) 65 each)

@@ -30,9 +30,9 @@ unfolding small
 entries_most j l = leb→le _ _ (at 33 small tests j (omega arith))
 
 -- and each of them
-pub entry-most : (j : ℕ) → j ≤ 32 → entry j ≤ unit
+pub entry_most : (j : ℕ) → j ≤ 32 → entry j ≤ unit
 unfolding little
-entry-most j l = leb→le _ _ (at 33 little each j (omega arith))
+entry_most j l = leb→le _ _ (at 33 little each j (omega arith))
 
 -- the four numbers of a row
 pub record Row (j c s z y : ℕ) : Type 0 where
@@ -47,5 +47,5 @@ row {j} l e = record {
   cosine = ap (λ (r : List ℕ). get_or r 0 0) e;
   sine = ap (λ (r : List ℕ). get_or r 1 0) e;
   both = omega (arith, ap (λ (r : List ℕ). get_or r 2 0) e, entries_most j l);
-  other = omega (arith, ap (λ (r : List ℕ). get_or r 3 0) e, entry-most j l);
+  other = omega (arith, ap (λ (r : List ℕ). get_or r 3 0) e, entry_most j l);
 }

@@ -23,9 +23,9 @@ use Rattle.spectrum.proofs.Loads.{quotient_small}
 use Rattle.spectrum.proofs.Cosines.{table_cosine, table_sine}
 
 -- ---- a float as a word: cut off by less than a unit
-pub loaded-near : (x : Float) (e : ℕ) → mag x < 2 ^ e → Close (2 ^ e) (times (whole (2 ^ e)) (value_of (word_of e x))) (times (whole (2 ^ 53)) (units_of x))
+pub loaded_near : (x : Float) (e : ℕ) → mag x < 2 ^ e → Close (2 ^ e) (times (whole (2 ^ e)) (value_of (word_of e x))) (times (whole (2 ^ 53)) (units_of x))
 unfolding word_of
-loaded-near x e small = go (negative x) refl
+loaded_near x e small = go (negative x) refl
   where
     q : ℕ
     q = mag x * 2 ^ 53 / 2 ^ e
@@ -129,11 +129,11 @@ module _ (vs : ℕ → Difference) (ys : List ℕ) (E : ℕ) (word : (n : ℕ) �
     room : (E u l : ℕ) → E * (u * (462 * 2 ^ 61)) + u * (128 * (2 ^ 61 * E)) + 2 ^ 53 * (128 * (l * (8 * u))) ≤ 2 ^ 61 * (590 * (E * u) + 4 * (l * u))
     room E u l = omega arith
 
-    pub real-sum : (k : ℕ) (v : Difference) → Close (462 * unit) (times (whole unit) v) (plain Y cosine 0 1 k 128) → Close (590 * (E * u) + 4 * (l * u)) (times (whole E) (times (whole u) v)) (times (whole (2 ^ 53)) (turned_total vs c k))
-    real-sum k v h = chain E u unit (2 ^ 53) (462 * unit) (128 * (unit * E)) (128 * (l * (8 * u))) (590 * (E * u) + 4 * (l * u)) v (plain Y cosine 0 1 k 128) (total (λ n. times (vs n) (cosine (k * n))) 128) (turned_total vs c k) (pow_pos 61) (room E u l) h (plain_near cosine cosine-length k) (table_near u l covers cosine_below c (table_cosine c s u turns) k)
+    pub real_sum : (k : ℕ) (v : Difference) → Close (462 * unit) (times (whole unit) v) (plain Y cosine 0 1 k 128) → Close (590 * (E * u) + 4 * (l * u)) (times (whole E) (times (whole u) v)) (times (whole (2 ^ 53)) (turned_total vs c k))
+    real_sum k v h = chain E u unit (2 ^ 53) (462 * unit) (128 * (unit * E)) (128 * (l * (8 * u))) (590 * (E * u) + 4 * (l * u)) v (plain Y cosine 0 1 k 128) (total (λ n. times (vs n) (cosine (k * n))) 128) (turned_total vs c k) (pow_pos 61) (room E u l) h (plain_near cosine cosine-length k) (table_near u l covers cosine_below c (table_cosine c s u turns) k)
 
-    pub imaginary-sum : (k : ℕ) (v : Difference) → Close (462 * unit) (times (whole unit) v) (plain Y sine 0 1 k 128) → Close (590 * (E * u) + 4 * (l * u)) (times (whole E) (times (whole u) v)) (times (whole (2 ^ 53)) (turned_total vs s k))
-    imaginary-sum k v h = chain E u unit (2 ^ 53) (462 * unit) (128 * (unit * E)) (128 * (l * (8 * u))) (590 * (E * u) + 4 * (l * u)) v (plain Y sine 0 1 k 128) (total (λ n. times (vs n) (sine (k * n))) 128) (turned_total vs s k) (pow_pos 61) (room E u l) h (plain_near sine sine-length k) (table_near u l covers sine_below s (table_sine c s u turns) k)
+    pub imaginary_sum : (k : ℕ) (v : Difference) → Close (462 * unit) (times (whole unit) v) (plain Y sine 0 1 k 128) → Close (590 * (E * u) + 4 * (l * u)) (times (whole E) (times (whole u) v)) (times (whole (2 ^ 53)) (turned_total vs s k))
+    imaginary_sum k v h = chain E u unit (2 ^ 53) (462 * unit) (128 * (unit * E)) (128 * (l * (8 * u))) (590 * (E * u) + 4 * (l * u)) v (plain Y sine 0 1 k 128) (total (λ n. times (vs n) (sine (k * n))) 128) (turned_total vs s k) (pow_pos 61) (room E u l) h (plain_near sine sine-length k) (table_near u l covers sine_below s (table_sine c s u turns) k)
 
 -- ---- the imaginary parts that are written as zero: their sums are
 module _ (Y : ℕ → Difference) (k : ℕ) (ends : (k ≡ 0) ⊎ (k ≡ 64)) where
@@ -181,7 +181,7 @@ pub near_output : (E u l : ℕ) (W R X : Difference) → (W.plus ≡ 0) ⊎ (W.m
     → 2 ^ 42 * apart (R.plus * u + X.minus) (R.minus * u + X.plus) ≤ 2 ^ 18 * apart X.plus X.minus + (l + 2 ^ 41) * u
 near_output E u l W R X side K few h g =
     finish (apart (R.plus * u + X.minus) (R.minus * u + X.plus)) (apart X.plus X.minus) (l * u)
-    (apart-most (2 ^ 77) (R.plus * u + X.minus) (R.minus * u + X.plus) ((E * length W + 2 ^ 76) * u + 2 ^ 24 * K) over.0 over.1) (wide side) few refl
+    (apart_most (2 ^ 77) (R.plus * u + X.minus) (R.minus * u + X.plus) ((E * length W + 2 ^ 76) * u + 2 ^ 24 * K) over.0 over.1) (wide side) few refl
   where
     -- the rounding, times u, and the value
     joined : (t B : ℕ) → Close (E * length W + 2 ^ 76) (times (whole (t * B)) R) (times (whole t) (times (whole E) W)) → Close K (times (whole E) (times (whole u) W)) (times (whole B) X)
@@ -208,8 +208,8 @@ near_output E u l W R X side K few h g =
         flat : (T : ℕ) (R X : Difference) (k : ℕ) → Close k (times (whole T) (times (whole u) R)) (times (whole T) X) → (T * (R.plus * u + X.minus) ≤ T * (R.minus * u + X.plus) + k) × (T * (R.minus * u + X.plus) ≤ T * (R.plus * u + X.minus) + k)
         flat T R X k j = (omega (arith, j.most), omega (arith, j.least))
 
-    apart-most : (T a b k : ℕ) → T * a ≤ T * b + k → T * b ≤ T * a + k → T * ((a - b) + (b - a)) ≤ k
-    apart-most T a b k l m = elim (le-or-lt a b) [ inl o ↦ down o | inr o ↦ up o ]
+    apart_most : (T a b k : ℕ) → T * a ≤ T * b + k → T * b ≤ T * a + k → T * ((a - b) + (b - a)) ≤ k
+    apart_most T a b k l m = elim (le-or-lt a b) [ inl o ↦ down o | inr o ↦ up o ]
       where
         down : a ≤ b → T * ((a - b) + (b - a)) ≤ k
         down o = let e : b ≡ a + ((a - b) + (b - a)) = omega arith in omega (arith, m, ap (λ (z : ℕ). T * z) e)

@@ -34,26 +34,26 @@ module _ (u : ℕ) (A B C D R : Difference) (a b c d r : ℕ) (ha : Value u a A)
   abbrev M : Difference
   M = opposite (whole u)
 
-  four-first : r + 3 * u ≡ a + b + c + d → Close 0 (times U R) (sum U U U U)
-  four-first h = record { most = omega (arith, ap (λ (z : ℕ). u * z) flat); least = omega (arith, ap (λ (z : ℕ). u * z) flat) }
+  four_first : r + 3 * u ≡ a + b + c + d → Close 0 (times U R) (sum U U U U)
+  four_first h = record { most = omega (arith, ap (λ (z : ℕ). u * z) flat); least = omega (arith, ap (λ (z : ℕ). u * z) flat) }
     where
       flat : R.plus + (A.minus + B.minus + C.minus + D.minus) ≡ A.plus + B.plus + C.plus + D.plus + R.minus
       flat = omega arith
 
-  four-second : r + c ≡ a + u → Close 0 (times U R) (sum U O M O)
-  four-second h = record { most = omega (arith, ap (λ (z : ℕ). u * z) flat); least = omega (arith, ap (λ (z : ℕ). u * z) flat) }
+  four_second : r + c ≡ a + u → Close 0 (times U R) (sum U O M O)
+  four_second h = record { most = omega (arith, ap (λ (z : ℕ). u * z) flat); least = omega (arith, ap (λ (z : ℕ). u * z) flat) }
     where
       flat : R.plus + (A.minus + C.plus) ≡ A.plus + C.minus + R.minus
       flat = omega arith
 
-  four-third : r + (b + d) ≡ a + c + u → Close 0 (times U R) (sum U M U M)
-  four-third h = record { most = omega (arith, ap (λ (z : ℕ). u * z) flat); least = omega (arith, ap (λ (z : ℕ). u * z) flat) }
+  four_third : r + (b + d) ≡ a + c + u → Close 0 (times U R) (sum U M U M)
+  four_third h = record { most = omega (arith, ap (λ (z : ℕ). u * z) flat); least = omega (arith, ap (λ (z : ℕ). u * z) flat) }
     where
       flat : R.plus + (A.minus + B.plus + C.minus + D.plus) ≡ A.plus + B.minus + C.plus + D.minus + R.minus
       flat = omega arith
 
-  four-fourth : r + b ≡ d + u → Close 0 (times U (opposite R)) (sum O U O M)
-  four-fourth h = record { most = omega (arith, ap (λ (z : ℕ). u * z) flat); least = omega (arith, ap (λ (z : ℕ). u * z) flat) }
+  four_fourth : r + b ≡ d + u → Close 0 (times U (opposite R)) (sum O U O M)
+  four_fourth h = record { most = omega (arith, ap (λ (z : ℕ). u * z) flat); least = omega (arith, ap (λ (z : ℕ). u * z) flat) }
     where
       flat : R.plus + (D.minus + B.plus) ≡ D.plus + B.minus + R.minus
       flat = omega arith
@@ -69,12 +69,12 @@ module _ (y : ℕ → ℕ) (off : ℕ) (r : ℕ → ℕ) (h : Four (y off) (y (o
   unfolding total entry cosine_below
   leaf_re k l = elim (eq-or-lt_of_le l) [
     | inl e ↦ subst (λ (k : ℕ). Close (0 * unit) (times (whole unit) (value_of (r k))) (plain (λ i. value_of (y i)) cosine off 32 k 4)) (sym e)
-        (four-third unit _ _ _ _ _ (y (off + 0)) (y (off + 32)) (y (off + 64)) (y (off + 96)) (r 2) (value _) (value _) (value _) (value _) (value _) (omega (arith, h.third, start)))
+        (four_third unit _ _ _ _ _ (y (off + 0)) (y (off + 32)) (y (off + 64)) (y (off + 96)) (r 2) (value _) (value _) (value _) (value _) (value _) (omega (arith, h.third, start)))
     | inr m ↦ elim (eq-or-lt_of_le (below m)) [
       | inl e ↦ subst (λ (k : ℕ). Close (0 * unit) (times (whole unit) (value_of (r k))) (plain (λ i. value_of (y i)) cosine off 32 k 4)) (sym e)
-          (four-second unit _ _ _ _ _ (y (off + 0)) (y (off + 32)) (y (off + 64)) (y (off + 96)) (r 1) (value _) (value _) (value _) (value _) (value _) (omega (arith, h.second, start)))
+          (four_second unit _ _ _ _ _ (y (off + 0)) (y (off + 32)) (y (off + 64)) (y (off + 96)) (r 1) (value _) (value _) (value _) (value _) (value _) (omega (arith, h.second, start)))
       | inr n ↦ subst (λ (k : ℕ). Close (0 * unit) (times (whole unit) (value_of (r k))) (plain (λ i. value_of (y i)) cosine off 32 k 4)) (sym (none n))
-          (four-first unit _ _ _ _ _ (y (off + 0)) (y (off + 32)) (y (off + 64)) (y (off + 96)) (r 0) (value _) (value _) (value _) (value _) (value _) (omega (arith, h.first, start)))
+          (four_first unit _ _ _ _ _ (y (off + 0)) (y (off + 32)) (y (off + 64)) (y (off + 96)) (r 0) (value _) (value _) (value _) (value _) (value _) (omega (arith, h.first, start)))
     ]
   ]
     where
@@ -86,7 +86,7 @@ module _ (y : ℕ → ℕ) (off : ℕ) (r : ℕ → ℕ) (h : Four (y off) (y (o
 
   leaf_im : Close (0 * unit) (times (whole unit) (opposite (value_of (r 3)))) (plain (λ i. value_of (y i)) sine off 32 1 4)
   unfolding total entry sine_below
-  leaf_im = four-fourth unit _ _ _ _ _ (y (off + 0)) (y (off + 32)) (y (off + 64)) (y (off + 96)) (r 3) (value _) (value _) (value _) (value _) (value _) (omega (arith, h.fourth))
+  leaf_im = four_fourth unit _ _ _ _ _ (y (off + 0)) (y (off + 32)) (y (off + 64)) (y (off + 96)) (r 3) (value _) (value _) (value _) (value _) (value _) (omega (arith, h.fourth))
 
   leaf : Transformed y 0 4 off 32 r
   leaf = record {

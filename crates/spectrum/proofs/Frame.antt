@@ -12,16 +12,16 @@ use lib.Dec.{T, lit<}
 use lib.Ieee.{Float, nan, binary32, fits, of_bits}
 use Rattle.units.specs.Units.{mag, negative, P, N, Number}
 use Rattle.units.proofs.Naturals.{le-or-lt}
-use Rattle.units.proofs.Size.{mag-digits}
+use Rattle.units.proofs.Size.{mag_digits}
 use Rattle.units.proofs.Signs.{size-sum, one_sided as one-sided'}
-use Rattle.units.proofs.Patterns.{finite-below}
+use Rattle.units.proofs.Patterns.{finite_below}
 use Rattle.spectrum.specs.Difference.{Difference, whole, opposite, times, total, apart, size}
 use Rattle.spectrum.specs.Table.{unit, cosine_below, sine_below, cosine, sine}
 use Rattle.spectrum.specs.Words.{value_of, Small, FilledWith}
 use Rattle.spectrum.specs.Transform.{at, Element, units_of, turned_total, turned_sum, Turns, Covers, NearOutput, exact_re, exact_im}
 use Rattle.spectrum.specs.Floats.{digits_in, place_in, size_in, size_bits, Largest, Scale, word_of, Loaded, Holdable, bits_of}
 use Rattle.spectrum.proofs.Differences as D
-use Rattle.spectrum.proofs.Differences.{Close, total-same, total-length}
+use Rattle.spectrum.proofs.Differences.{Close, total_same, total-length}
 use Rattle.spectrum.proofs.Halving.{plain}
 use Rattle.spectrum.proofs.Rotated.{unflipped}
 use Rattle.spectrum.proofs.Stage.{Transformed}
@@ -29,14 +29,14 @@ use Rattle.spectrum.proofs.Filling.{loss, filled, sizes}
 use Rattle.spectrum.proofs.Blocks.{within}
 use Rattle.spectrum.proofs.Sizes.{size_of, size_mono}
 use Rattle.spectrum.proofs.Cosines.{table_cosine, table_sine}
-use Rattle.spectrum.proofs.Exact.{loaded-near, real-sum, imaginary-sum, table_near, end_sum, near_output}
+use Rattle.spectrum.proofs.Exact.{loaded_near, real_sum, imaginary_sum, table_near, end_sum, near_output}
 use Rattle.spectrum.proofs.Energy.{largest_by}
 use Rattle.spectrum.proofs.Written.{Output, output, one_sided, zero_output}
 
 -- ---- elements by their patterns
-top-size : size_in 2071986176 ≡ 2 ^ 269
+top_size : size_in 2071986176 ≡ 2 ^ 269
 unfolding digits_in place_in
-top-size = refl
+top_size = refl
 
 below_top : size_in 2071986175 < 2 ^ 269
 unfolding digits_in place_in
@@ -48,7 +48,7 @@ zero-size = refl
 
 pub element_below : (x : Float) → Element x → size_bits x < 2071986176
 element_below x h = elim (le-or-lt 2071986176 (size_bits x)) [
-  | inl l ↦ absurd (under (le_trans (le_of_eq (sym top-size)) (le_trans (size_mono 2071986176 (size_bits x) l) (le_of_eq (sym (size_of x h.number))))) h.small)
+  | inl l ↦ absurd (under (le_trans (le_of_eq (sym top_size)) (le_trans (size_mono 2071986176 (size_bits x) l) (le_of_eq (sym (size_of x h.number))))) h.small)
   | inr l ↦ l
 ]
   where
@@ -57,7 +57,7 @@ element_below x h = elim (le-or-lt 2071986176 (size_bits x)) [
 
 pub below_element : (x : Float) → T (fits binary32 x) → size_bits x < 2071986176 → Element x
 below_element x f l =
-    let n = finite-below x f (omega arith) in
+    let n = finite_below x f (omega arith) in
     record { number = n; small = lt_of_le_of_lt (le_trans (le_of_eq (size_of x n)) (size_mono (size_bits x) 2071986175 (omega arith))) below_top }
 
 -- ---- words of 24 digits
@@ -65,7 +65,7 @@ module _ (x : Float) (n : Number x) (e : ℕ) (small : mag x < 2 ^ e) where
   -- a size below 2 ^ e is at least one part in 2 ^ 24 below it
   short : mag x * 2 ^ 24 ≤ (2 ^ 24 - 1) * 2 ^ e
   short =
-      let (q, j, l, s) = mag-digits x n in
+      let (q, j, l, s) = mag_digits x n in
       rw s (elim (le-or-lt (j + 24) e) [ inl a ↦ digits q j l a | inr a ↦ places q j a (lt_of_le_of_lt (le_of_eq (sym s)) small) ])
     where
       digits : (q j : ℕ) → q < 2 ^ 24 → j + 24 ≤ e → q * 2 ^ j * 2 ^ 24 ≤ (2 ^ 24 - 1) * 2 ^ e
@@ -96,8 +96,8 @@ module _ (x : Float) (n : Number x) (e : ℕ) (small : mag x < 2 ^ e) where
           some : (q c p E : ℕ) → E ≡ c * p → q * p < E → E ≤ p * 2 ^ 24 → q * p * 2 ^ 24 ≤ (2 ^ 24 - 1) * E
           some q c p E h l k = let g : q < c = lt_of_mul-lt-mul_right p (lt_of_lt_of_le l (le_of_eq h)) in omega (arith, mul-le-mul_right p g)
 
-  pub word-most : mag x * 2 ^ 53 / 2 ^ e ≤ 2 ^ 53 - 2 ^ 29
-  word-most = le_of_mul-le-mul_right (le_trans (div-mul-le_self (mag x * 2 ^ 53) (2 ^ e)) (le_trans (le_of_eq (shifted (mag x))) (le_trans (mul-le-mul_right (2 ^ 29) short) (le_of_eq (same (2 ^ e)))))) (pow_pos e)
+  pub word_most : mag x * 2 ^ 53 / 2 ^ e ≤ 2 ^ 53 - 2 ^ 29
+  word_most = le_of_mul-le-mul_right (le_trans (div-mul-le_self (mag x * 2 ^ 53) (2 ^ e)) (le_trans (le_of_eq (shifted (mag x))) (le_trans (mul-le-mul_right (2 ^ 29) short) (le_of_eq (same (2 ^ e)))))) (pow_pos e)
     where
       shifted : (m : ℕ) → m * 2 ^ 53 ≡ m * 2 ^ 24 * 2 ^ 29
       shifted m = omega arith
@@ -107,7 +107,7 @@ module _ (x : Float) (n : Number x) (e : ℕ) (small : mag x < 2 ^ e) where
 
   pub word_small : Small (word_of e x)
   unfolding word_of
-  word_small = go (negative x) (mag x * 2 ^ 53 / 2 ^ e) word-most
+  word_small = go (negative x) (mag x * 2 ^ 53 / 2 ^ e) word_most
     where
       go : (s : Bool) (q : ℕ) → q ≤ 2 ^ 53 - 2 ^ 29 → Small (cond s (unit - q) (unit + q))
       go true q l = record { least = omega arith; most = omega arith }
@@ -115,7 +115,7 @@ module _ (x : Float) (n : Number x) (e : ℕ) (small : mag x < 2 ^ e) where
 
   pub word-length : D.length (value_of (word_of e x)) ≤ 2 ^ 53 - 2 ^ 29
   unfolding word_of
-  word-length = go (negative x) (mag x * 2 ^ 53 / 2 ^ e) word-most
+  word-length = go (negative x) (mag x * 2 ^ 53 / 2 ^ e) word_most
     where
       go : (s : Bool) (q : ℕ) → q ≤ 2 ^ 53 - 2 ^ 29 → D.length (value_of (cond s (unit - q) (unit + q))) ≤ 2 ^ 53 - 2 ^ 29
       go true q l = omega arith
@@ -141,8 +141,8 @@ module _ (xs : List Float) (m e : ℕ) (elements : (n : ℕ) → n < 128 → Ele
       nought : size_bits (at xs n) ≤ m → size_bits (at xs n) ≡ 0
       nought h = omega arith
 
-  pub small-words : (ys : List ℕ) → Loaded e xs ys → (i : ℕ) → i < 128 → Small (get_or ys i 0)
-  small-words ys loaded i l = subst Small (sym (loaded.each i l)) (word_small (at xs i) (elements i l).number e (size_below i l))
+  pub small_words : (ys : List ℕ) → Loaded e xs ys → (i : ℕ) → i < 128 → Small (get_or ys i 0)
+  small_words ys loaded i l = subst Small (sym (loaded.each i l)) (word_small (at xs i) (elements i l).number e (size_below i l))
 
   module _ (ys r : List ℕ) (loaded : Loaded e xs ys) (count : length r ≡ 128) (fills : FilledWith ys 0 1 r) where
     word : (i : ℕ) → i < 128 → get_or ys i unit ≡ word_of e (at xs i)
@@ -152,8 +152,8 @@ module _ (xs : List Float) (m e : ℕ) (elements : (n : ℕ) → n < 128 → Ele
     abbrev vs : ℕ → Difference
     vs n = units_of (at xs n)
 
-    near-words : (n : ℕ) → n < 128 → Close (2 ^ e) (times (whole (2 ^ e)) (value_of (get_or ys n unit))) (times (whole (2 ^ 53)) (vs n))
-    near-words n l = rw (word n l) (loaded-near (at xs n) e (size_below n l))
+    near_words : (n : ℕ) → n < 128 → Close (2 ^ e) (times (whole (2 ^ e)) (value_of (get_or ys n unit))) (times (whole (2 ^ 53)) (vs n))
+    near_words n l = rw (word n l) (loaded_near (at xs n) e (size_below n l))
 
     lengths_by : (l : ℕ) → Covers l xs → (n : ℕ) → n < 128 → D.length (vs n) ≤ l
     lengths_by l covers n h = le_trans (le_of_eq (size-sum (at xs n))) (covers n h)
@@ -240,21 +240,21 @@ module _ (xs : List Float) (m e : ℕ) (elements : (n : ℕ) → n < 128 → Ele
               nothing_left : (a b : ℕ) → a + b ≤ 0 → 2 ^ 42 * apart (0 * u + b) (0 * u + a) ≤ 2 ^ 18 * apart a b + (l + 2 ^ 41) * u
               nothing_left a b k = let x : a ≡ 0 = omega arith in let y : b ≡ 0 = omega arith in rw (x, y) (omega arith)
 
-      pub real-near : (k : ℕ) → k ≤ 64 → NearOutput (of_bits binary32 (bits_of e (get_or r k 0))) (exact_re xs c k) u l
-      real-near k b =
+      pub real_near : (k : ℕ) → k ≤ 64 → NearOutput (of_bits binary32 (bits_of e (get_or r k 0))) (exact_re xs c k) u l
+      real_near k b =
           let h = holdable k (omega arith) in
           any_near (value_of (get_or r k 0)) (turned_sum xs c k) (plain (λ i. value_of (get_or ys i unit)) cosine 0 1 k 128) _ (one_sided e (get_or r k 0) scale.high h) (output e (get_or r k 0) scale.high h) (block.re k (omega arith)) (λ z. silent_plain z cosine k) (λ z. silent_sum z c k)
-          (real-sum vs ys (2 ^ e) near-words c s u l turns (lengths_by l covers) k (value_of (get_or r k 0)) (block.re k (omega arith)))
+          (real_sum vs ys (2 ^ e) near_words c s u l turns (lengths_by l covers) k (value_of (get_or r k 0)) (block.re k (omega arith)))
 
       turned : (E u B K : ℕ) (v S : Difference) → Close K (times (whole E) (times (whole u) (opposite v))) (times (whole B) S) → Close K (times (whole E) (times (whole u) v)) (times (whole B) (opposite S))
       turned E u B K v S h = record { most = omega (arith, h.least); least = omega (arith, h.most) }
 
-      pub imaginary-near : (k : ℕ) → 1 ≤ k → k < 64 → NearOutput (of_bits binary32 (bits_of e (get_or r (128 - k) 0))) (exact_im xs s k) u l
-      imaginary-near k a b =
+      pub imaginary_near : (k : ℕ) → 1 ≤ k → k < 64 → NearOutput (of_bits binary32 (bits_of e (get_or r (128 - k) 0))) (exact_im xs s k) u l
+      imaginary_near k a b =
           let v = get_or r (128 - k) 0 in
           let h = holdable (128 - k) (omega arith) in
           any_near (value_of v) (opposite (turned_sum xs s k)) (opposite (plain (λ i. value_of (get_or ys i unit)) sine 0 1 k 128)) _ (one_sided e v scale.high h) (output e v scale.high h) (opposed' (block.im k a (omega arith))) (λ z. flip (plain (λ i. value_of (get_or ys i unit)) sine 0 1 k 128) (silent_plain z sine k)) (λ z. flip (turned_sum xs s k) (silent_sum z s k))
-          (turned (2 ^ e) u (2 ^ 53) lost (value_of v) (turned_sum xs s k) (imaginary-sum vs ys (2 ^ e) near-words c s u l turns (lengths_by l covers) k (opposite (value_of v)) (block.im k a (omega arith))))
+          (turned (2 ^ e) u (2 ^ 53) lost (value_of v) (turned_sum xs s k) (imaginary_sum vs ys (2 ^ e) near_words c s u l turns (lengths_by l covers) k (opposite (value_of v)) (block.im k a (omega arith))))
         where
           flip : (d : Difference) → D.length d ≤ 0 → D.length (opposite d) ≤ 0
           flip d h = omega arith
@@ -266,7 +266,7 @@ module _ (xs : List Float) (m e : ℕ) (elements : (n : ℕ) → n < 128 → Ele
       end_near k ends =
           let h = end_sum (λ i. value_of (get_or ys i unit)) k ends in
           any_near (whole 0) (opposite (turned_sum xs s k)) (plain (λ i. value_of (get_or ys i unit)) sine 0 1 k 128) 0 (inl refl) (zero_output (2 ^ e)) h (λ z. silent_plain z sine k) (λ z. flip (turned_sum xs s k) (silent_sum z s k))
-          (turned (2 ^ e) u (2 ^ 53) lost (whole 0) (turned_sum xs s k) (imaginary-sum vs ys (2 ^ e) near-words c s u l turns (lengths_by l covers) k (opposite (whole 0)) h))
+          (turned (2 ^ e) u (2 ^ 53) lost (whole 0) (turned_sum xs s k) (imaginary_sum vs ys (2 ^ e) near_words c s u l turns (lengths_by l covers) k (opposite (whole 0)) h))
         where
           flip : (d : Difference) → D.length d ≤ 0 → D.length (opposite d) ≤ 0
           flip d h = omega arith
@@ -287,7 +287,7 @@ module _ (xs : List Float) (m e : ℕ) (elements : (n : ℕ) → n < 128 → Ele
       ]
 
       plainly : (w : ℕ → Difference) (k : ℕ) → plain (λ i. units_of (at xs i)) w 0 1 k 128 ≡ total (λ n. times (units_of (at xs n)) (w (k * n))) 128
-      plainly w k = total-same _ _ 128 (λ n. ap (λ (j : ℕ). times (units_of (at xs (0 + j))) (w (k * j))) (mul-one n) ∙ ap (λ (j : ℕ). times (units_of (at xs j)) (w (k * n))) (zero-add n))
+      plainly w k = total_same _ _ 128 (λ n. ap (λ (j : ℕ). times (units_of (at xs (0 + j))) (w (k * j))) (mul-one n) ∙ ap (λ (j : ℕ). times (units_of (at xs j)) (w (k * n))) (zero-add n))
 
       pub largest_output : (q : ℕ) → ((k : ℕ) → k ≤ 64 → size (exact_re xs c k) ≤ q) → ((k : ℕ) → k ≤ 64 → size (exact_im xs s k) ≤ q) → u * M ≤ 256 * q
       largest_output q sr si = elim (eq-zero-or-pos m) [ inl z ↦ quiet z | inr p ↦ loud (λ z. above p z) ]
@@ -302,8 +302,8 @@ module _ (xs : List Float) (m e : ℕ) (elements : (n : ℕ) → n < 128 → Ele
           loud some =
               let (i, b, e) = largest.there some in
               largest_by (λ i. units_of (at xs i)) (turned_sum xs c) (turned_sum xs s) u M i b all_covered (size-sum (at xs i) ∙ size_of (at xs i) (elements i b).number ∙ ap size_in e) (one-sided' (at xs i))
-              (λ k l. subst (λ (d : Difference). Close (128 * (M * (8 * u))) (times (whole u) d) (times (whole unit) (turned_sum xs c k))) (sym (plainly cosine k)) (table_near vs ys (2 ^ e''') near-words u M (lengths_by M covered) cosine_below c (table_cosine c s u turns) k))
-              (λ k l. subst (λ (d : Difference). Close (128 * (M * (8 * u))) (times (whole u) d) (times (whole unit) (turned_sum xs s k))) (sym (plainly sine k)) (table_near vs ys (2 ^ e''') near-words u M (lengths_by M covered) sine_below s (table_sine c s u turns) k))
+              (λ k l. subst (λ (d : Difference). Close (128 * (M * (8 * u))) (times (whole u) d) (times (whole unit) (turned_sum xs c k))) (sym (plainly cosine k)) (table_near vs ys (2 ^ e''') near_words u M (lengths_by M covered) cosine_below c (table_cosine c s u turns) k))
+              (λ k l. subst (λ (d : Difference). Close (128 * (M * (8 * u))) (times (whole u) d) (times (whole unit) (turned_sum xs s k))) (sym (plainly sine k)) (table_near vs ys (2 ^ e''') near_words u M (lengths_by M covered) sine_below s (table_sine c s u turns) k))
               q sr (λ k l. le_trans (le_of_eq (turned-size (turned_sum xs s k))) (si k l))
             where
               e''' : ℕ

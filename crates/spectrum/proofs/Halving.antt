@@ -5,7 +5,7 @@ use native.Mathlib.Nat.{mul-le-mul_right}
 use native.Mathlib.Omega.{arith}
 use Rattle.spectrum.specs.Difference.{Difference, whole, opposite, add, times, total}
 use Rattle.spectrum.specs.Table.{unit, entry, cosine, sine}
-use Rattle.spectrum.proofs.Differences.{Close, length, close_trans, close_weaken, close_add, close_times, swapped, distributed, total-same, total_close, total-times, total_split}
+use Rattle.spectrum.proofs.Differences.{Close, length, close_trans, close_weaken, close_add, close_times, swapped, distributed, total_same, total_close, total-times, total_split}
 use Rattle.spectrum.proofs.Turning.{addition_cosine, addition_sine, whole-cosine, whole-sine, half_cosine, half_sine}
 
 -- the sum over n values, st apart from off on, each turned by k times its place
@@ -46,7 +46,7 @@ module _ (y : ℕ → Difference) (off st k n : ℕ) where
   pub split : (w : ℕ → Difference) → Close 0 (plain y w off st k (2 * n)) (add (plain y w off (2 * st) k n) (odd y w off st k n))
   split w =
       subst (λ (d : Difference). Close 0 (plain y w off st k (2 * n)) (add d (odd y w off st k n)))
-      (total-same (λ m. times (y (off + 2 * m * st)) (w (k * (2 * m * st)))) (λ m. times (y (off + m * (2 * st))) (w (k * (m * (2 * st))))) n (λ m. ap (λ (i : ℕ). times (y (off + i)) (w (k * i))) (swap m)))
+      (total_same (λ m. times (y (off + 2 * m * st)) (w (k * (2 * m * st)))) (λ m. times (y (off + m * (2 * st))) (w (k * (m * (2 * st))))) n (λ m. ap (λ (i : ℕ). times (y (off + i)) (w (k * i))) (swap m)))
       (total_split (λ m. times (y (off + m * st)) (w (k * (m * st)))) n)
     where
       swap : (m : ℕ) → 2 * m * st ≡ m * (2 * st)
@@ -72,11 +72,11 @@ module _ (y : ℕ → Difference) (off st k n : ℕ) where
         remainder : {a : ℕ} → a ≡ 128 * m + 64 → a % 128 ≡ 64
         remainder e = omega arith
 
-    pub even-cosine : Close 0 (plain y cosine off (2 * st) k' n) (plain y cosine off (2 * st) k n)
-    even-cosine = totals _ _ n (λ m. by (y (off + m * (2 * st))) (whole-cosine (k' * (m * (2 * st))) (k * (m * (2 * st))) (even_place m)))
+    pub even_cosine : Close 0 (plain y cosine off (2 * st) k' n) (plain y cosine off (2 * st) k n)
+    even_cosine = totals _ _ n (λ m. by (y (off + m * (2 * st))) (whole-cosine (k' * (m * (2 * st))) (k * (m * (2 * st))) (even_place m)))
 
-    pub even-sine : Close 0 (plain y sine off (2 * st) k' n) (opposite (plain y sine off (2 * st) k n))
-    even-sine = close_trans (totals _ _ n (λ m. by (y (off + m * (2 * st))) (whole-sine (k' * (m * (2 * st))) (k * (m * (2 * st))) (even_place m)))) (opposites _ _ n)
+    pub even_sine : Close 0 (plain y sine off (2 * st) k' n) (opposite (plain y sine off (2 * st) k n))
+    even_sine = close_trans (totals _ _ n (λ m. by (y (off + m * (2 * st))) (whole-sine (k' * (m * (2 * st))) (k * (m * (2 * st))) (even_place m)))) (opposites _ _ n)
 
     pub odd_cosine : Close 0 (odd y cosine off st k' n) (opposite (odd y cosine off st k n))
     odd_cosine = close_trans (totals _ _ n (λ m. by (y (off + (2 * m + 1) * st)) (half_cosine (k' * ((2 * m + 1) * st)) (k * ((2 * m + 1) * st)) (odd_place m)))) (opposites _ _ n)

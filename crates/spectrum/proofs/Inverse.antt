@@ -14,7 +14,7 @@ use Rattle.spectrum.proofs.Tests.{all, at}
 use Rattle.spectrum.proofs.Entries.{entries_most}
 use Rattle.spectrum.proofs.Differences.{Close, length, close_sym, close_trans, close_weaken, close_add, close_times, close_unscale, total-length, times-length}
 use Rattle.spectrum.proofs.Turning.{cosine-length, sine-length}
-use Rattle.spectrum.proofs.Halving.{plain, odd, split, even-cosine, even-sine, odd_cosine, odd_sine, turned-cosine, turned-sine}
+use Rattle.spectrum.proofs.Halving.{plain, odd, split, even_cosine, even_sine, odd_cosine, odd_sine, turned-cosine, turned-sine}
 
 -- ---- cosine and sine of one angle: their squares make 1 within 2 units
 unfoldable squares : ℕ → Bool
@@ -23,17 +23,17 @@ squares i = leb (entry i * entry i + entry (32 - i) * entry (32 - i)) (unit * un
 unfoldable squares_back : ℕ → Bool
 squares_back i = leb (unit * unit) (entry i * entry i + entry (32 - i) * entry (32 - i) + 2 * unit)
 
-squares-most : T (all 33 squares)
+squares_most : T (all 33 squares)
 unfolding all squares entry
-squares-most = tt
+squares_most = tt
 
-squares-least : T (all 33 squares_back)
+squares_least : T (all 33 squares_back)
 unfolding all squares_back entry
-squares-least = tt
+squares_least = tt
 
 one : (i : ℕ) → i ≤ 32 → (entry i * entry i + entry (32 - i) * entry (32 - i) ≤ unit * unit + 2 * unit) × (unit * unit ≤ entry i * entry i + entry (32 - i) * entry (32 - i) + 2 * unit)
 unfolding squares squares_back
-one i l = (leb→le _ _ (at 33 squares squares-most i (omega arith)), leb→le _ _ (at 33 squares_back squares-least i (omega arith)))
+one i l = (leb→le _ _ (at 33 squares squares_most i (omega arith)), leb→le _ _ (at 33 squares_back squares_least i (omega arith)))
 
 -- ---- |a| ≤ b
 abbrev pub Most : ℕ → Difference → Type 0
@@ -84,8 +84,8 @@ module _ (U c s n b : ℕ) (few : 2 * (c + s) ≤ 3 * U) (sq : c * c + s * s ≤
     room : (e : ℕ) → e ≡ n * (b * (2 * U)) → 2 * U * (n * b * U) + (c + s) * e + (c + s) * (U * z) ≤ U * U * (2 * z + 5 * (n * b))
     room e h = omega (arith, ap (λ (k : ℕ). (c + s) * k) h, mul-le-mul_right (U * (n * b)) few, mul-le-mul_right (U * z) few)
 
-    turned-first : Most (2 * z + 5 * (n * b)) x
-    turned-first =
+    turned_first : Most (2 * z + 5 * (n * b)) x
+    turned_first =
         small (U * U) (2 * U * (n * b * U) + (c + s) * (n * (b * (2 * U)))) ((c + s) * (U * z)) (2 * z + 5 * (n * b)) x
         (add (times (whole c) (times (whole U) a)) (times (whole s) (times (whole U) o))) (mul-pos pos pos) (room _ refl)
         (close_weaken (sums (2 * U * (n * b * U)) (n * (b * (2 * U))))
@@ -98,8 +98,8 @@ module _ (U c s n b : ℕ) (few : 2 * (c + s) ≤ 3 * U) (sq : c * c + s * s ≤
         lengths : (U z : ℕ) → (c + 0 + (s + 0)) * ((U + 0) * z) ≤ (c + s) * (U * z)
         lengths U z = omega arith
 
-    turned-second : Most (2 * z + 5 * (n * b)) y
-    turned-second =
+    turned_second : Most (2 * z + 5 * (n * b)) y
+    turned_second =
         small (U * U) (2 * U * (n * b * U) + (c + s) * (n * (b * (2 * U)))) ((c + s) * (U * z)) (2 * z + 5 * (n * b)) y
         (add (times (whole c) (times (whole U) o)) (times (opposite (whole s)) (times (whole U) a))) (mul-pos pos pos) (room _ refl)
         (close_weaken (sums (2 * U * (n * b * U)) (n * (b * (2 * U))))
@@ -132,12 +132,12 @@ module _ (X : ℕ → Difference) (l : ℕ) (covers : (i : ℕ) → length (X i)
       cosines : Most b (plain X cosine off (2 * st) k n) × Most b (odd X cosine off st k n)
       cosines =
           half_sum _ _ _ _ (split X off st k n cosine)
-          (close_trans (split X off st (n - k) n cosine) (close_add (even-cosine X off st k n (n - k) n back half) (odd_cosine X off st k n (n - k) n back half))) (h.re k (omega arith)) (h.re (n - k) (omega arith))
+          (close_trans (split X off st (n - k) n cosine) (close_add (even_cosine X off st k n (n - k) n back half) (odd_cosine X off st k n (n - k) n back half))) (h.re k (omega arith)) (h.re (n - k) (omega arith))
 
       sines : Most b (odd X sine off st k n) × Most b (plain X sine off (2 * st) k n)
       sines =
           half_sum _ _ _ _ (exchange (plain X sine off (2 * st) k n) (odd X sine off st k n) (split X off st k n sine))
-          (exchange (opposite (plain X sine off (2 * st) k n)) (odd X sine off st k n) (close_trans (split X off st (n - k) n sine) (close_add (even-sine X off st k n (n - k) n back half) (odd_sine X off st k n (n - k) n back half)))) (h.im k (omega arith)) (h.im (n - k) (omega arith))
+          (exchange (opposite (plain X sine off (2 * st) k n)) (odd X sine off st k n) (close_trans (split X off st (n - k) n sine) (close_add (even_sine X off st k n (n - k) n back half) (odd_sine X off st k n (n - k) n back half)))) (h.im k (omega arith)) (h.im (n - k) (omega arith))
         where
           exchange : {D : Difference} (E o : Difference) → Close 0 D (add E o) → Close 0 D (add o E)
           exchange E o g = record { most = omega (arith, g.most); least = omega (arith, g.least) }
@@ -149,9 +149,9 @@ module _ (X : ℕ → Difference) (l : ℕ) (covers : (i : ℕ) → length (X i)
       others =
           let q = one (k * st) few in
           let t = entries_most (k * st) few in (
-            turned-first unit (entry (k * st)) (entry (32 - k * st)) n l t q.0 q.1 (pow_pos 61) _ _ (odd X cosine off st k n) (odd X sine off st k n) b (sum-length cosine cosine-length (off + st) (2 * st) k n) (sum-length sine sine-length (off + st) (2 * st) k n)
+            turned_first unit (entry (k * st)) (entry (32 - k * st)) n l t q.0 q.1 (pow_pos 61) _ _ (odd X cosine off st k n) (odd X sine off st k n) b (sum-length cosine cosine-length (off + st) (2 * st) k n) (sum-length sine sine-length (off + st) (2 * st) k n)
                 (turned-cosine X off st k n l covers few) (turned-sine X off st k n l covers few) cosines.1 sines.0,
-            turned-second unit (entry (k * st)) (entry (32 - k * st)) n l t q.0 q.1 (pow_pos 61) _ _ (odd X cosine off st k n) (odd X sine off st k n) b (sum-length cosine cosine-length (off + st) (2 * st) k n) (sum-length sine sine-length (off + st) (2 * st) k n)
+            turned_second unit (entry (k * st)) (entry (32 - k * st)) n l t q.0 q.1 (pow_pos 61) _ _ (odd X cosine off st k n) (odd X sine off st k n) b (sum-length cosine cosine-length (off + st) (2 * st) k n) (sum-length sine sine-length (off + st) (2 * st) k n)
                 (turned-cosine X off st k n l covers few) (turned-sine X off st k n l covers few) cosines.1 sines.0,
           )
 

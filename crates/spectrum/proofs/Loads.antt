@@ -15,7 +15,7 @@ use Rattle.units.proofs.Patterns.{packed_of}
 use Rattle.spectrum.specs.Table.{unit}
 use Rattle.spectrum.specs.Transform.{at}
 use Rattle.spectrum.specs.Floats.{place_in, size_in, size_bits, Largest, word_of}
-use Rattle.spectrum.proofs.Sizes.{high-digits}
+use Rattle.spectrum.proofs.Sizes.{high_digits}
 
 -- ---- a number is no NaN
 pub no_nan : (x : Float) → Number x → T (not (is_nan x))
@@ -32,9 +32,9 @@ module _ (x : Float) (n : Number x) (e : ℕ) where
   sign : (s : Bool) → negative x ≡ s → to_bits binary32 x / 2147483648 ≡ cond s 1 0
   sign s h = (packed_of x n).top_bit ∙ ap (λ (b : Bool). cond b 1 0) h
 
-  pub word-plus : to_bits binary32 x < 2147483648 → unit + mag x * 2 ^ 53 / 2 ^ e ≡ word_of e x
+  pub word_plus : to_bits binary32 x < 2147483648 → unit + mag x * 2 ^ 53 / 2 ^ e ≡ word_of e x
   unfolding word_of
-  word-plus h = go (negative x) refl
+  word_plus h = go (negative x) refl
     where
       go : (s : Bool) → negative x ≡ s → unit + mag x * 2 ^ 53 / 2 ^ e ≡ cond (negative x) (unit - mag x * 2 ^ 53 / 2 ^ e) (unit + mag x * 2 ^ 53 / 2 ^ e)
       go true g = absurd (wrong (sign true g))
@@ -43,9 +43,9 @@ module _ (x : Float) (n : Number x) (e : ℕ) where
           wrong f = omega arith
       go false g = rw g refl
 
-  pub word-minus : 2147483648 ≤ to_bits binary32 x → unit - mag x * 2 ^ 53 / 2 ^ e ≡ word_of e x
+  pub word_minus : 2147483648 ≤ to_bits binary32 x → unit - mag x * 2 ^ 53 / 2 ^ e ≡ word_of e x
   unfolding word_of
-  word-minus h = go (negative x) refl
+  word_minus h = go (negative x) refl
     where
       go : (s : Bool) → negative x ≡ s → unit - mag x * 2 ^ 53 / 2 ^ e ≡ cond (negative x) (unit - mag x * 2 ^ 53 / 2 ^ e) (unit + mag x * 2 ^ 53 / 2 ^ e)
       go false g = absurd (wrong (sign false g))
@@ -55,8 +55,8 @@ module _ (x : Float) (n : Number x) (e : ℕ) where
       go true g = rw g refl
 
 -- a normal size below 2 ^ e has its place below e
-pub place-most : (b e : ℕ) → 8388608 ≤ b → size_in b < 2 ^ e → place_in b ≤ e
-place-most b e l h = below (pow_back_lt (23 + place_in b) e (lt_of_le_of_lt (le_trans (le_of_eq (pow-add 2 23 (place_in b))) (mul-le-mul_right (2 ^ place_in b) (rw (high-digits b l) (least)))) h))
+pub place_most : (b e : ℕ) → 8388608 ≤ b → size_in b < 2 ^ e → place_in b ≤ e
+place_most b e l h = below (pow_back_lt (23 + place_in b) e (lt_of_le_of_lt (le_trans (le_of_eq (pow-add 2 23 (place_in b))) (mul-le-mul_right (2 ^ place_in b) (rw (high_digits b l) (least)))) h))
   where
     least : 2 ^ 23 ≤ b % 8388608 + 8388608
     least = omega arith
@@ -65,8 +65,8 @@ place-most b e l h = below (pow_back_lt (23 + place_in b) e (lt_of_le_of_lt (le_
     below g = omega arith
 
 -- ---- the largest
-pub largest-none : (xs : List Float) → Largest xs 0 0
-largest-none xs = record { most = λ i l. absurd (omega arith); there = λ n. absurd (n refl) }
+pub largest_none : (xs : List Float) → Largest xs 0 0
+largest_none xs = record { most = λ i l. absurd (omega arith); there = λ n. absurd (n refl) }
 
 module _ (xs : List Float) (n m : ℕ) (h : Largest xs n m) where
   last_or : {i : ℕ} → i < n + 1 → (i ≡ n) ⊎ (i < n)

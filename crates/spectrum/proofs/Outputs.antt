@@ -12,7 +12,7 @@ use lib.Ieee.{binary32, of_bits}
 use Rattle.units.proofs.Naturals.{le-or-lt, pow_back_lt}
 use Rattle.units.proofs.Bits.{Is, sign_bit, put}
 use Rattle.fixed.specs.Rounded.{Normal, nearest_bits}
-use Rattle.fixed.proofs.Rounding.{units_of, placed, near-most, near-least, is_units, bits_fit, zero_bits, zero_units}
+use Rattle.fixed.proofs.Rounding.{units_of, placed, near_most, near_least, is_units, bits_fit, zero_bits, zero_units}
 use Rattle.spectrum.specs.Floats.{half_up, size_bits_of}
 
 -- ---- what the tests say of n
@@ -40,8 +40,8 @@ module _ (n e : ℕ) (few : n < 2 ^ 60) (high : e ≤ 269) where
 
   -- enough digits
   module _ (enough : z + 13 ≤ e) where
-    pub at-least_17 : 17 ≤ e
-    at-least_17 = omega (arith, zeros_least)
+    pub at_least_17 : 17 ≤ e
+    at_least_17 = omega (arith, zeros_least)
 
     pub normal : Normal (n * 16) (e - 17)
     normal = record { least = λ p. least (above p); most = omega arith }
@@ -52,11 +52,11 @@ module _ (n e : ℕ) (few : n < 2 ^ 60) (high : e ≤ 269) where
         least : 0 < n → 2 ^ 63 ≤ n * 16 * 2 ^ (e - 17)
         least p =
             le_trans (placed n p (lt_of_lt_of_le few (pow_mono {i = 60} {j = 64} (omega arith)))).low
-            (le_trans (mul-le-mul_left n (pow_mono {i = z} {j = 4 + (e - 17)} (omega (arith, at-least_17)))) (le_of_eq (ap (λ (x : ℕ). n * x) (pow-add 2 4 (e - 17)) ∙ sym (mul_assoc n 16 (2 ^ (e - 17))))))
+            (le_trans (mul-le-mul_left n (pow_mono {i = z} {j = 4 + (e - 17)} (omega (arith, at_least_17)))) (le_of_eq (ap (λ (x : ℕ). n * x) (pow-add 2 4 (e - 17)) ∙ sym (mul_assoc n 16 (2 ^ (e - 17))))))
 
-    pub bits-normal : size_bits_of e n ≡ nearest_bits (n * 16) (e - 17)
+    pub bits_normal : size_bits_of e n ≡ nearest_bits (n * 16) (e - 17)
     unfolding size_bits_of
-    bits-normal = rw (le-leb (z + 13) e enough) refl
+    bits_normal = rw (le-leb (z + 13) e enough) refl
 
   -- or few
   module _ (rest : e < z + 13) where
@@ -76,9 +76,9 @@ module _ (n e : ℕ) (few : n < 2 ^ 60) (high : e ≤ 269) where
     unfolding size_bits_of
     bits_cut l = rw (lt-leb (z + 13) e rest, lt-ltb e 53 l) refl
 
-    pub bits-whole : 53 ≤ e → size_bits_of e n ≡ n * 2 ^ (e - 53)
+    pub bits_whole : 53 ≤ e → size_bits_of e n ≡ n * 2 ^ (e - 53)
     unfolding size_bits_of
-    bits-whole l = rw (lt-leb (z + 13) e rest, le-ltb e 53 l) refl
+    bits_whole l = rw (lt-leb (z + 13) e rest, le-ltb e 53 l) refl
 
     whole_of : e < 53 → 2 ^ 52 ≡ 2 ^ (52 - e) * 2 ^ e
     whole_of l = power (52 - e) e 52 (omega arith)
@@ -89,15 +89,15 @@ module _ (n e : ℕ) (few : n < 2 ^ 60) (high : e ≤ 269) where
     same : 53 ≤ e → n * 2 ^ e ≡ n * 2 ^ (e - 53) * 2 ^ 53
     same l = ap (λ (x : ℕ). n * x) (power (e - 53) 53 e (omega arith)) ∙ sym (mul_assoc n (2 ^ (e - 53)) (2 ^ 53))
 
-    pub whole-most : 53 ≤ e → n * 2 ^ (e - 53) < 2 ^ 23
-    whole-most l = lt_of_mul-lt-mul_right (2 ^ 53) (lt_of_le_of_lt (le_of_eq (sym (same l))) (lt_of_lt_of_le few_units (le_of_eq (pow-add 2 23 53))))
+    pub whole_most : 53 ≤ e → n * 2 ^ (e - 53) < 2 ^ 23
+    whole_most l = lt_of_mul-lt-mul_right (2 ^ 53) (lt_of_le_of_lt (le_of_eq (sym (same l))) (lt_of_lt_of_le few_units (le_of_eq (pow-add 2 23 53))))
 
   -- the pattern is below that of the infinity
   pub bits_below : size_bits_of e n < 255 * 8388608
   bits_below = elim (le-or-lt (z + 13) e) [
-    | inl a ↦ rw (bits-normal a) (bits_fit (n * 16) (e - 17) short (normal a))
+    | inl a ↦ rw (bits_normal a) (bits_fit (n * 16) (e - 17) short (normal a))
     | inr a ↦ elim (le-or-lt 53 e) [
-      | inl l ↦ rw (bits-whole a l) (lt_of_lt_of_le (whole-most a l) (small))
+      | inl l ↦ rw (bits_whole a l) (lt_of_lt_of_le (whole_most a l) (small))
       | inr l ↦ rw (bits_cut a l) (halved (n / 2 ^ (52 - e)) (cut_most a l))
     ]
   ]
@@ -125,8 +125,8 @@ module _ (n e : ℕ) (few : n < 2 ^ 60) (high : e ≤ 269) (s : Bool) where
       let k = normal n e few high a in
       record {
         units = units_of (n * 16) (e - 17);
-        is = rw (bits-normal n e few high a) (elim (eq-zero-or-pos n) [ inl h ↦ none h | inr p ↦ is_units (n * 16) (e - 17) (short n e few high) k s (above p) ]);
-        rounds = exact (n * 16 * 2 ^ (e - 17)) (n * 2 ^ e) (units_of (n * 16) (e - 17)) same (near-most (n * 16) (e - 17) (short n e few high) k) (near-least (n * 16) (e - 17) (short n e few high) k);
+        is = rw (bits_normal n e few high a) (elim (eq-zero-or-pos n) [ inl h ↦ none h | inr p ↦ is_units (n * 16) (e - 17) (short n e few high) k s (above p) ]);
+        rounds = exact (n * 16 * 2 ^ (e - 17)) (n * 2 ^ e) (units_of (n * 16) (e - 17)) same (near_most (n * 16) (e - 17) (short n e few high) k) (near_least (n * 16) (e - 17) (short n e few high) k);
       }
     where
       above : 0 < n → 0 < n * 16
@@ -144,7 +144,7 @@ module _ (n e : ℕ) (few : n < 2 ^ 60) (high : e ≤ 269) (s : Bool) where
           ∙ regroup n (2 ^ (e - 17))
         where
           up : e ≡ 4 + (e - 17) + 13
-          up = omega (arith, at-least_17 n e few high a)
+          up = omega (arith, at_least_17 n e few high a)
 
           regroup : (n x : ℕ) → n * (16 * x * 2 ^ 13) ≡ n * 16 * x * 2 ^ 13
           regroup n x = omega arith
@@ -183,7 +183,7 @@ module _ (n e : ℕ) (few : n < 2 ^ 60) (high : e ≤ 269) (s : Bool) where
   whole_sized a l =
       record {
         units = n * 2 ^ (e - 53) * 1;
-        is = rw (bits-whole n e few high a l) (subst (λ (b : ℕ). Is (of_bits binary32 (sign_bit s + b)) s (n * 2 ^ (e - 53) * 1)) (zero-add (n * 2 ^ (e - 53))) (put s (n * 2 ^ (e - 53)) 0 (inl refl) (less (n * 2 ^ (e - 53)) (whole-most n e few high a l)) (under (n * 2 ^ (e - 53)) (whole-most n e few high a l))));
+        is = rw (bits_whole n e few high a l) (subst (λ (b : ℕ). Is (of_bits binary32 (sign_bit s + b)) s (n * 2 ^ (e - 53) * 1)) (zero-add (n * 2 ^ (e - 53))) (put s (n * 2 ^ (e - 53)) 0 (inl refl) (less (n * 2 ^ (e - 53)) (whole_most n e few high a l)) (under (n * 2 ^ (e - 53)) (whole_most n e few high a l))));
         rounds = exact (n * 2 ^ (e - 53)) (n * 2 ^ e) (same n e few high a l);
       }
     where

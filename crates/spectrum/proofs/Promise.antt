@@ -16,7 +16,7 @@ use Rattle.spectrum.specs.Transform.{at, Lengths, Element, Elements, Accepts, Tu
 use Rattle.spectrum.specs.Floats.{size_in, Largest, Scale, Loaded, StoredReal, StoredImaginary, IsTransform}
 use Rattle.spectrum.proofs.Written.{Output, output, zero_output}
 use Rattle.spectrum.proofs.Energy.{energy}
-use Rattle.spectrum.proofs.Frame.{holdable, covered, largest_output, real-near, imaginary-near, end_near, element_below}
+use Rattle.spectrum.proofs.Frame.{holdable, covered, largest_output, real_near, imaginary_near, end_near, element_below}
 
 -- ---- lists of patterns as lists of floats
 abbrev pub floats : List ℕ → List Float
@@ -47,7 +47,7 @@ module _ (xs : List Float) (nre nim : ℕ) {before : List ℕ × List ℕ} where
     success = λ a. absurd (wrong a.lengths);
     as_many = λ a. absurd (wrong a.lengths);
     finite = λ a. absurd (wrong a.lengths);
-    zero-plus = λ a. absurd (wrong a.lengths);
+    zero_plus = λ a. absurd (wrong a.lengths);
     alone = λ a. absurd (wrong a.lengths);
     near = λ a. absurd (wrong a.lengths);
     energy = λ a. absurd (wrong a.lengths);
@@ -60,7 +60,7 @@ module _ (xs : List Float) (nre nim : ℕ) {before : List ℕ × List ℕ} where
     success = λ a. absurd (wrong a.elements);
     as_many = λ a. absurd (wrong a.elements);
     finite = λ a. absurd (wrong a.elements);
-    zero-plus = λ a. absurd (wrong a.elements);
+    zero_plus = λ a. absurd (wrong a.elements);
     alone = λ a. absurd (wrong a.elements);
     near = λ a. absurd (wrong a.elements);
     energy = λ a. absurd (wrong a.elements);
@@ -84,8 +84,8 @@ module _ (xs : List Float) (nre nim m e : ℕ) (accepts : Accepts xs nre nim) (l
     W : Difference
     is : Output (2 ^ e) W b
 
-  real-written : (k : ℕ) → k ≤ 64 → Written k (get_or re k 0)
-  real-written k l = subst (Written k) (sym (real.each k l)) (record { W = value_of (get_or r k 0); is = output e (get_or r k 0) scale.high (holdable xs m e elements largest scale ys r loaded count fills k (omega arith)) })
+  real_written : (k : ℕ) → k ≤ 64 → Written k (get_or re k 0)
+  real_written k l = subst (Written k) (sym (real.each k l)) (record { W = value_of (get_or r k 0); is = output e (get_or r k 0) scale.high (holdable xs m e elements largest scale ys r loaded count fills k (omega arith)) })
 
   place : (k : ℕ) → k ≤ 64 → ((k ≡ 0) ⊎ (k ≡ 64)) ⊎ ((1 ≤ k) × (k < 64))
   place k l = elim (eq-or-lt_of_le l) [ inl z ↦ inl (inr z) | inr b ↦ elim (zero_or k) [ inl z ↦ inl (inl z) | inr a ↦ inr (a, b) ] ]
@@ -98,8 +98,8 @@ module _ (xs : List Float) (nre nim m e : ℕ) (accepts : Accepts xs nre nim) (l
   end_zero k (inl z) = rw z imaginary.first
   end_zero k (inr z) = rw z imaginary.last
 
-  imaginary-written : (k : ℕ) → k ≤ 64 → Written k (get_or im k 0)
-  imaginary-written k l = elim (place k l) [
+  imaginary_written : (k : ℕ) → k ≤ 64 → Written k (get_or im k 0)
+  imaginary_written k l = elim (place k l) [
     | inl ends ↦ subst (Written k) (sym (end_zero k ends)) (record { W = whole 0; is = zero_output (2 ^ e) })
     | inr (a, b) ↦ subst (Written k) (sym (imaginary.each k a b)) (record { W = value_of (get_or r (128 - k) 0); is = output e (get_or r (128 - k) 0) scale.high (holdable xs m e elements largest scale ys r loaded count fills (128 - k) (omega arith)) })
   ]
@@ -111,27 +111,27 @@ module _ (xs : List Float) (nre nim m e : ℕ) (accepts : Accepts xs nre nim) (l
   at_im k l = at_floats im k (omega (arith, imaginary.as_many))
 
   numbers : (k : ℕ) → k ≤ 64 → Number (at (floats re) k) × Number (at (floats im) k)
-  numbers k l = (subst Number (sym (at_re k l)) (real-written k l).is.number, subst Number (sym (at_im k l)) (imaginary-written k l).is.number)
+  numbers k l = (subst Number (sym (at_re k l)) (real_written k l).is.number, subst Number (sym (at_im k l)) (imaginary_written k l).is.number)
 
   plus : {b : ℕ} {W : Difference} → Output (2 ^ e) W b → mag (of_bits binary32 b) ≡ 0 → float_bits (of_bits binary32 b) ≡ 0
-  plus o z = o.back ∙ o.zero-plus z
+  plus o z = o.back ∙ o.zero_plus z
 
   zeros : (k : ℕ) → k ≤ 64 → (mag (at (floats re) k) ≡ 0 → float_bits (at (floats re) k) ≡ 0) × (mag (at (floats im) k) ≡ 0 → float_bits (at (floats im) k) ≡ 0)
   zeros k l = (
-    subst (λ (x : Float). mag x ≡ 0 → float_bits x ≡ 0) (sym (at_re k l)) (plus (real-written k l).is),
-    subst (λ (x : Float). mag x ≡ 0 → float_bits x ≡ 0) (sym (at_im k l)) (plus (imaginary-written k l).is),
+    subst (λ (x : Float). mag x ≡ 0 → float_bits x ≡ 0) (sym (at_re k l)) (plus (real_written k l).is),
+    subst (λ (x : Float). mag x ≡ 0 → float_bits x ≡ 0) (sym (at_im k l)) (plus (imaginary_written k l).is),
   )
 
   module _ (c s : ℕ → Difference) (u l : ℕ) (turns : Turns c s u) (covers : Covers l xs) (k : ℕ) (few : k ≤ 64) where
     re_near : NearOutput (at (floats re) k) (exact_re xs c k) u l
     re_near =
         subst (λ (x : Float). NearOutput x (exact_re xs c k) u l) (sym (at_re k few ∙ ap (of_bits binary32) (real.each k few)))
-        (real-near xs m e elements largest scale ys r loaded count fills c s u l turns covers k few)
+        (real_near xs m e elements largest scale ys r loaded count fills c s u l turns covers k few)
 
     im_near : NearOutput (at (floats im) k) (exact_im xs s k) u l
     im_near = elim (place k few) [
       | inl ends ↦ subst (λ (x : Float). NearOutput x (exact_im xs s k) u l) (sym (at_im k few ∙ ap (of_bits binary32) (end_zero k ends))) (end_near xs m e elements largest scale ys r loaded count fills c s u l turns covers k ends)
-      | inr (a, b) ↦ subst (λ (x : Float). NearOutput x (exact_im xs s k) u l) (sym (at_im k few ∙ ap (of_bits binary32) (imaginary.each k a b))) (imaginary-near xs m e elements largest scale ys r loaded count fills c s u l turns covers k a b)
+      | inr (a, b) ↦ subst (λ (x : Float). NearOutput x (exact_im xs s k) u l) (sym (at_im k few ∙ ap (of_bits binary32) (imaginary.each k a b))) (imaginary_near xs m e elements largest scale ys r loaded count fills c s u l turns covers k a b)
     ]
 
   summed : (c s : ℕ → Difference) (u : ℕ) → Turns c s u → 10 ^ 14 * sum_of (λ k. square (error_of (at (floats re) k) (exact_re xs c k) u) + square (error_of (at (floats im) k) (exact_im xs s k) u)) 65
@@ -143,10 +143,10 @@ module _ (xs : List Float) (nre nim m e : ℕ) (accepts : Accepts xs nre nim) (l
 
   -- the patterns, back from their floats
   re_back : list_bits (floats re) ≡ re
-  re_back = bits_back re (λ k l. (real-written k (omega (arith, real.as_many))).is.back)
+  re_back = bits_back re (λ k l. (real_written k (omega (arith, real.as_many))).is.back)
 
   im_back : list_bits (floats im) ≡ im
-  im_back = bits_back im (λ k l. (imaginary-written k (omega (arith, imaginary.as_many))).is.back)
+  im_back = bits_back im (λ k l. (imaginary_written k (omega (arith, imaginary.as_many))).is.back)
 
   made : IsTransform xs (list_bits (floats re)) (list_bits (floats im))
   made = subst (λ (a : List ℕ). IsTransform xs a (list_bits (floats im))) (sym re_back) (subst (IsTransform xs re) (sym im_back) (record { m = m; e = e; ys = ys; r = r; largest = largest; scale = scale; loaded = loaded; count = count; fills = fills; real = real; imaginary = imaginary }))
@@ -158,7 +158,7 @@ module _ (xs : List Float) (nre nim m e : ℕ) (accepts : Accepts xs nre nim) (l
     success = λ a. refl;
     as_many = λ a. (floats_length re ∙ real.as_many, floats_length im ∙ imaginary.as_many);
     finite = λ a. numbers;
-    zero-plus = λ a. zeros;
+    zero_plus = λ a. zeros;
     alone = λ a. made;
     near = λ a c s u l turns covers k few. (re_near c s u l turns covers k few, im_near c s u l turns covers k few);
     energy = λ a. summed;

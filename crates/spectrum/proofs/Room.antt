@@ -31,17 +31,17 @@ pub record Twice (t : ℕ) : Type 0 where
 
 module _ (c s or oi : ℕ) (hc : c ≤ unit) (hs : s ≤ unit) (hr : Inside or) (hi : Inside oi) where
   -- the real part
-  pub real-room : (p p' t : ℕ) → Product or c p → Product oi s p' → t + (c + s) ≡ p + p' + 2 * unit → Twice t
-  real-room p p' t r r' e = let a = turned hc hr r in let b = turned hs hi r' in record { least = omega (arith, a.least, b.least); most = omega (arith, a.most, b.most) }
+  pub real_room : (p p' t : ℕ) → Product or c p → Product oi s p' → t + (c + s) ≡ p + p' + 2 * unit → Twice t
+  real_room p p' t r r' e = let a = turned hc hr r in let b = turned hs hi r' in record { least = omega (arith, a.least, b.least); most = omega (arith, a.most, b.most) }
 
   -- and the imaginary part
-  pub imaginary-room : (p p' u : ℕ) → Product oi c p → Product or s p' → u + (p' + c) ≡ p + (2 * unit + s) → Twice u
-  imaginary-room p p' u r r' e = let a = turned hc hi r in let b = turned hs hr r' in record { least = omega arith; most = omega arith }
+  pub imaginary_room : (p p' u : ℕ) → Product oi c p → Product or s p' → u + (p' + c) ≡ p + (2 * unit + s) → Twice u
+  imaginary_room p p' u r r' e = let a = turned hc hi r in let b = turned hs hr r' in record { least = omega arith; most = omega arith }
 
   -- what is taken away last
   pub taken_away : (p p' : ℕ) → Product oi c p → Product or s p' → p' + c ≤ p + (2 * unit + s)
   taken_away p p' r r' = let a = turned hc hi r in let b = turned hs hr r' in omega arith
 
 -- one product
-pub one-room : (v q p : ℕ) → q ≤ unit → Inside v → Product v q p → p ≤ 2 * unit
-one-room v q p l h r = omega (arith, (turned l h r).most)
+pub one_room : (v q p : ℕ) → q ≤ unit → Inside v → Product v q p → p ≤ 2 * unit
+one_room v q p l h r = omega (arith, (turned l h r).most)

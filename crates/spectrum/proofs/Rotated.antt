@@ -16,16 +16,16 @@ Value u v d = d.plus + u ≡ v + d.minus
 
 -- ---- the two parts of the product, as three floors a product leave them
 module _ (u c s or oi p q t : ℕ) (R I : Difference) (hr : Value u or R) (hi : Value u oi I) where
-  pub real-part : p * u ≤ or * c → or * c < (p + 3) * u → q * u ≤ oi * s → oi * s < (q + 3) * u → t + (c + s) ≡ p + q + 2 * u
+  pub real_part : p * u ≤ or * c → or * c < (p + 3) * u → q * u ≤ oi * s → oi * s < (q + 3) * u → t + (c + s) ≡ p + q + 2 * u
       → Close (6 * u) (times (whole u) (less u t)) (add (times (whole c) R) (times (whole s) I))
-  real-part a b a' b' e = record {
+  real_part a b a' b' e = record {
     most = omega (arith, a, a', ap (λ (x : ℕ). x * c) hr, ap (λ (x : ℕ). x * s) hi, ap (λ (x : ℕ). u * x) e);
     least = omega (arith, b, b', ap (λ (x : ℕ). x * c) hr, ap (λ (x : ℕ). x * s) hi, ap (λ (x : ℕ). u * x) e);
   }
 
-  pub imaginary-part : p * u ≤ oi * c → oi * c < (p + 3) * u → q * u ≤ or * s → or * s < (q + 3) * u → t + (q + c) ≡ p + (2 * u + s)
+  pub imaginary_part : p * u ≤ oi * c → oi * c < (p + 3) * u → q * u ≤ or * s → or * s < (q + 3) * u → t + (q + c) ≡ p + (2 * u + s)
       → Close (6 * u) (times (whole u) (less u t)) (add (times (whole c) I) (times (opposite (whole s)) R))
-  imaginary-part a b a' b' e = record {
+  imaginary_part a b a' b' e = record {
     most = omega (arith, a, b', ap (λ (x : ℕ). x * s) hr, ap (λ (x : ℕ). x * c) hi, ap (λ (x : ℕ). u * x) e);
     least = omega (arith, b, a', ap (λ (x : ℕ). x * s) hr, ap (λ (x : ℕ). x * c) hi, ap (λ (x : ℕ). u * x) e);
   }
@@ -55,19 +55,19 @@ module _ (u e x : ℕ) (pos : 0 < u) where
       (close_trans (close_times (whole u) h) (close_trans (pulled u c s a b) (close_trans (close_add (close_times c ha) (close_times s hb)) (close_sym hd)))))
 
   module _ (c s or oi p q : ℕ) (R I ro so O S : Difference) (hr : Value u or R) (hi : Value u oi I) (nr : Close (e * u) (times (whole u) R) O) (ni : Close (e * u) (times (whole u) (opposite I)) S) where
-    pub real-near : (t : ℕ) → p * u ≤ or * c → or * c < (p + 3) * u → q * u ≤ oi * s → oi * s < (q + 3) * u → t + (c + s) ≡ p + q + 2 * u
+    pub real_near : (t : ℕ) → p * u ≤ or * c → or * c < (p + 3) * u → q * u ≤ oi * s → oi * s < (q + 3) * u → t + (c + s) ≡ p + q + 2 * u
         → Close (x * u) (times (whole u) ro) (add (times (whole c) O) (times (opposite (whole s)) S)) → Close (6 * u + (c + s) * e + x) (times (whole u) (less u t)) ro
-    real-near t a b a' b' f h =
-        against (c + s) (whole c) (whole s) (less u t) R I O (opposite S) ro (omega arith) (real-part u c s or oi p q t R I hr hi a b a' b' f) nr (unflipped u I ni)
+    real_near t a b a' b' f h =
+        against (c + s) (whole c) (whole s) (less u t) R I O (opposite S) ro (omega arith) (real_part u c s or oi p q t R I hr hi a b a' b' f) nr (unflipped u I ni)
         (close_weaken (omega arith) (close_trans h (close_add {e = 0} {f = 0} zero_close (close_sym (exchanged (whole s) S)))))
       where
         zero_close : {d : Difference} → Close 0 d d
         zero_close = record { most = omega arith; least = omega arith }
 
-    pub imaginary-near : (t : ℕ) → p * u ≤ oi * c → oi * c < (p + 3) * u → q * u ≤ or * s → or * s < (q + 3) * u → t + (q + c) ≡ p + (2 * u + s)
+    pub imaginary_near : (t : ℕ) → p * u ≤ oi * c → oi * c < (p + 3) * u → q * u ≤ or * s → or * s < (q + 3) * u → t + (q + c) ≡ p + (2 * u + s)
         → Close (x * u) (times (whole u) so) (add (times (whole s) O) (times (whole c) S)) → Close (6 * u + (c + s) * e + x) (times (whole u) (opposite (less u t))) so
-    imaginary-near t a b a' b' f h =
-        back (against (c + s) (whole c) (opposite (whole s)) (less u t) I R (opposite S) O (opposite so) (omega arith) (imaginary-part u c s or oi p q t R I hr hi a b a' b' f) (unflipped u I ni) nr
+    imaginary_near t a b a' b' f h =
+        back (against (c + s) (whole c) (opposite (whole s)) (less u t) I R (opposite S) O (opposite so) (omega arith) (imaginary_part u c s or oi p q t R I hr hi a b a' b' f) (unflipped u I ni) nr
         (turned (flipped u so h)))
       where
         turned : Close (x * u) (times (whole u) (opposite so)) (opposite (add (times (whole s) O) (times (whole c) S))) → Close (x * u) (times (whole u) (opposite so)) (add (times (whole c) (opposite S)) (times (opposite (whole s)) O))

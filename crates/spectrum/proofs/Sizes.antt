@@ -14,31 +14,31 @@ use Rattle.units.proofs.Patterns.{Shape, packed, packed_le, packed_of}
 use Rattle.spectrum.specs.Floats.{digits_in, place_in, size_in, size_bits, Scale}
 
 -- ---- digits and places
-pub low-digits : (b : ℕ) → b < 8388608 → digits_in b ≡ b
+pub low_digits : (b : ℕ) → b < 8388608 → digits_in b ≡ b
 unfolding digits_in
-low-digits b h = rw (lt-ltb b 8388608 h) refl
+low_digits b h = rw (lt-ltb b 8388608 h) refl
 
-pub high-digits : (b : ℕ) → 8388608 ≤ b → digits_in b ≡ b % 8388608 + 8388608
+pub high_digits : (b : ℕ) → 8388608 ≤ b → digits_in b ≡ b % 8388608 + 8388608
 unfolding digits_in
-high-digits b h = rw (le-ltb b 8388608 h) refl
+high_digits b h = rw (le-ltb b 8388608 h) refl
 
-pub low-place : (b : ℕ) → b < 8388608 → place_in b ≡ 0
+pub low_place : (b : ℕ) → b < 8388608 → place_in b ≡ 0
 unfolding place_in
-low-place b h = omega arith
+low_place b h = omega arith
 
-pub digits-few : (b : ℕ) → digits_in b < 2 ^ 24
-digits-few b = elim (le-or-lt 8388608 b) [ inl h ↦ rw (high-digits b h) (omega arith) | inr h ↦ rw (low-digits b h) (omega arith) ]
+pub digits_few : (b : ℕ) → digits_in b < 2 ^ 24
+digits_few b = elim (le-or-lt 8388608 b) [ inl h ↦ rw (high_digits b h) (omega arith) | inr h ↦ rw (low_digits b h) (omega arith) ]
 
 shape_in : (b : ℕ) → Shape (digits_in b) (place_in b)
 unfolding place_in
 shape_in b = record {
-  few = digits-few b;
-  first = elim (le-or-lt 8388608 b) [ inl h ↦ inr (rw (high-digits b h) (omega arith)) | inr h ↦ inl (low-place b h) ];
+  few = digits_few b;
+  first = elim (le-or-lt 8388608 b) [ inl h ↦ inr (rw (high_digits b h) (omega arith)) | inr h ↦ inl (low_place b h) ];
 }
 
 packed_in : (b : ℕ) → packed (digits_in b) (place_in b) ≡ b
 unfolding place_in
-packed_in b = elim (le-or-lt 8388608 b) [ inl h ↦ rw (high-digits b h) (omega arith) | inr h ↦ rw (low-digits b h) (omega arith) ]
+packed_in b = elim (le-or-lt 8388608 b) [ inl h ↦ rw (high_digits b h) (omega arith) | inr h ↦ rw (low_digits b h) (omega arith) ]
 
 -- a larger pattern is a larger size
 pub size_mono : (b b' : ℕ) → b ≤ b' → size_in b ≤ size_in b'
@@ -47,12 +47,12 @@ size_mono b b' h = packed_le (digits_in b) (place_in b) (digits_in b') (place_in
 -- a float's size is that of its pattern
 pub size_of : (x : Float) → Number x → mag x ≡ size_in (size_bits x)
 unfolding place_in
-size_of x n = let p = packed_of x n in p.units ∙ ap₂ (λ m k. m * 2 ^ k) (digits p.m p.k p.shape p.size-bits) (place p.m p.k p.shape p.size-bits)
+size_of x n = let p = packed_of x n in p.units ∙ ap₂ (λ m k. m * 2 ^ k) (digits p.m p.k p.shape p.size_bits_lem) (place p.m p.k p.shape p.size_bits_lem)
   where
     digits : (m k : ℕ) → Shape m k → size_bits x ≡ packed m k → m ≡ digits_in (size_bits x)
     digits m k s e = elim (le-or-lt 8388608 m) [
-      | inl h ↦ sym (high-digits (size_bits x) (omega arith) ∙ rest h)
-      | inr h ↦ elim s.first [ inl z ↦ sym (low-digits (size_bits x) (omega arith) ∙ alone z) | inr l ↦ absurd (both l h) ]
+      | inl h ↦ sym (high_digits (size_bits x) (omega arith) ∙ rest h)
+      | inr h ↦ elim s.first [ inl z ↦ sym (low_digits (size_bits x) (omega arith) ∙ alone z) | inr l ↦ absurd (both l h) ]
     ]
       where
         rest : 8388608 ≤ m → size_bits x % 8388608 + 8388608 ≡ m
@@ -68,11 +68,11 @@ size_of x n = let p = packed_of x n in p.units ∙ ap₂ (λ m k. m * 2 ^ k) (di
     place m k s e = elim s.first [ inl z ↦ let few : m < 16777216 = s.few in omega arith | inr l ↦ let few : m < 16777216 = s.few in let l' : 8388608 ≤ m = l in omega arith ]
 
 -- ---- how many digits a size has
-pub low-scale : (m : ℕ) → m < 8388608 → Scale m (32 - count_leading_zeros 32 m)
-low-scale m h = elim (eq-zero-or-pos m) [ inl z ↦ none z | inr p ↦ some p ]
+pub low_scale : (m : ℕ) → m < 8388608 → Scale m (32 - count_leading_zeros 32 m)
+low_scale m h = elim (eq-zero-or-pos m) [ inl z ↦ none z | inr p ↦ some p ]
   where
     alone : size_in m ≡ m
-    alone = ap₂ (λ d k. d * 2 ^ k) (low-digits m h) (low-place m h) ∙ mul-one m
+    alone = ap₂ (λ d k. d * 2 ^ k) (low_digits m h) (low_place m h) ∙ mul-one m
 
     none : m ≡ 0 → Scale m (32 - count_leading_zeros 32 m)
     none z = rw (z, leading_of_zero 32) (record { above = rw (z) at (lt_of_le_of_lt (le_of_eq alone) (nought z)); below = λ n. absurd (n refl); none = λ z. refl; high = omega arith })
@@ -89,11 +89,11 @@ low-scale m h = elim (eq-zero-or-pos m) [ inl z ↦ none z | inr p ↦ some p ]
         twice : (x : ℕ) → x ≤ m → x * 2 ≤ 2 * m
         twice x l = omega arith
 
-pub high-scale : (m : ℕ) → 8388608 ≤ m → m < 2071986176 → Scale m (m / 8388608 + 23)
+pub high_scale : (m : ℕ) → 8388608 ≤ m → m < 2071986176 → Scale m (m / 8388608 + 23)
 unfolding place_in
-high-scale m l h = record {
-  above = rw (high-digits m l) (lt_of_lt_of_le (mul-lt-mul_of_pos_right most (pow_pos (m / 8388608 - 1))) (le_of_eq (sym (pow-add 2 24 (m / 8388608 - 1)) ∙ ap (λ (n : ℕ). 2 ^ n) up)));
-  below = λ n. rw (high-digits m l) (le_trans (le_of_eq (ap (λ (n : ℕ). 2 ^ n) (sym up) ∙ pow-add 2 24 (m / 8388608 - 1))) (twice (2 ^ (m / 8388608 - 1))));
+high_scale m l h = record {
+  above = rw (high_digits m l) (lt_of_lt_of_le (mul-lt-mul_of_pos_right most (pow_pos (m / 8388608 - 1))) (le_of_eq (sym (pow-add 2 24 (m / 8388608 - 1)) ∙ ap (λ (n : ℕ). 2 ^ n) up)));
+  below = λ n. rw (high_digits m l) (le_trans (le_of_eq (ap (λ (n : ℕ). 2 ^ n) (sym up) ∙ pow-add 2 24 (m / 8388608 - 1))) (twice (2 ^ (m / 8388608 - 1))));
   none = λ z. absurd (omega arith);
   high = omega arith;
 }
@@ -137,7 +137,7 @@ module _ (m k e : ℕ) (few : m < 2 ^ 24) where
 
 -- no digits, no pattern
 pub size-zero : (b : ℕ) → size_in b ≡ 0 → b ≡ 0
-size-zero b h = elim (le-or-lt 8388608 b) [ inl l ↦ absurd (some (digits_in b) (2 ^ place_in b) (rw (high-digits b l) (least l)) (pow_pos (place_in b)) h) | inr l ↦ sym (low-digits b l) ∙ none (digits_in b) (2 ^ place_in b) (pow_pos (place_in b)) h ]
+size-zero b h = elim (le-or-lt 8388608 b) [ inl l ↦ absurd (some (digits_in b) (2 ^ place_in b) (rw (high_digits b l) (least l)) (pow_pos (place_in b)) h) | inr l ↦ sym (low_digits b l) ∙ none (digits_in b) (2 ^ place_in b) (pow_pos (place_in b)) h ]
   where
     least : 8388608 ≤ b → 1 ≤ b % 8388608 + 8388608
     least l = omega arith

@@ -12,8 +12,8 @@ use Rattle.spectrum.specs.Words.{value_of, Butterfly, Combined}
 use Rattle.spectrum.proofs.Parts.{product}
 use Rattle.spectrum.proofs.Entries.{entries_most}
 use Rattle.spectrum.proofs.Differences.{Close, length, close_sym, close_trans, close_weaken, close_add, close_unscale}
-use Rattle.spectrum.proofs.Halving.{plain, odd, split, even-cosine, even-sine, odd_cosine, odd_sine, turned-cosine, turned-sine}
-use Rattle.spectrum.proofs.Rotated.{Value, less, flipped, joined, budget, real-near, imaginary-near}
+use Rattle.spectrum.proofs.Halving.{plain, odd, split, even_cosine, even_sine, odd_cosine, odd_sine, turned-cosine, turned-sine}
+use Rattle.spectrum.proofs.Rotated.{Value, less, flipped, joined, budget, real_near, imaginary_near}
 
 -- a block of n words holds the transform of n values, st apart from off on, within e: real parts from 0 to n / 2, imaginary parts, from the end, in between
 pub record Transformed (y : ℕ → ℕ) (e n off st : ℕ) (r : ℕ → ℕ) : Type 0 where
@@ -63,9 +63,9 @@ ends_budget u e e''' x m l = omega (arith, mul-le-mul_right u l)
 scaled : (n a u : ℕ) → n * (a * (2 * u)) ≤ 2 * (n * a) * u
 scaled n a u = omega arith
 
-at-most_32 : (G st : ℕ) → G * st ≡ 32 → G ≤ 32
-at-most_32 G zero h = omega arith
-at-most_32 G (suc st) h = omega (arith, mul-le-mul_left G (zero-le {n = st}))
+at_most_32 : (G st : ℕ) → G * st ≡ 32 → G ≤ 32
+at_most_32 G zero h = omega arith
+at_most_32 G (suc st) h = omega (arith, mul-le-mul_left G (zero-le {n = st}))
 
 module _ (y : ℕ → ℕ) (small : (i : ℕ) → length (value_of (y i)) ≤ 2 ^ 53) (off st G e e''' : ℕ) (pos : 1 ≤ G) (turn : G * st ≡ 32) (room : 5 * e + 14 ≤ 2 * e''') where
   abbrev Y : ℕ → Difference
@@ -75,7 +75,7 @@ module _ (y : ℕ → ℕ) (small : (i : ℕ) → length (value_of (y i)) ≤ 2 
   x = 2 * (2 * G * 2 ^ 53)
 
   x_most : x ≤ unit
-  x_most = omega (arith, at-most_32 G st turn)
+  x_most = omega (arith, at_most_32 G st turn)
 
   half : 2 * G * st ≡ 64
   half = omega (arith, turn)
@@ -91,10 +91,10 @@ module _ (y : ℕ → ℕ) (small : (i : ℕ) → length (value_of (y i)) ≤ 2 
   sums w k = subst (λ (n : ℕ). Close 0 (plain Y w off st k n) (add (plain Y w off (2 * st) k (2 * G)) (odd Y w off st k (2 * G)))) whole_block (split Y off st k (2 * G) w)
 
   mirror_cosine : (k k' : ℕ) → k' + k ≡ 2 * G → Close 0 (plain Y cosine off st k' (4 * G)) (add (plain Y cosine off (2 * st) k (2 * G)) (opposite (odd Y cosine off st k (2 * G))))
-  mirror_cosine k k' h = close_trans (sums cosine k') (close_add (even-cosine Y off st k (2 * G) k' (2 * G) h half) (odd_cosine Y off st k (2 * G) k' (2 * G) h half))
+  mirror_cosine k k' h = close_trans (sums cosine k') (close_add (even_cosine Y off st k (2 * G) k' (2 * G) h half) (odd_cosine Y off st k (2 * G) k' (2 * G) h half))
 
   mirror_sine : (k k' : ℕ) → k' + k ≡ 2 * G → Close 0 (plain Y sine off st k' (4 * G)) (add (opposite (plain Y sine off (2 * st) k (2 * G))) (odd Y sine off st k (2 * G)))
-  mirror_sine k k' h = close_trans (sums sine k') (close_add (even-sine Y off st k (2 * G) k' (2 * G) h half) (odd_sine Y off st k (2 * G) k' (2 * G) h half))
+  mirror_sine k k' h = close_trans (sums sine k') (close_add (even_sine Y off st k (2 * G) k' (2 * G) h half) (odd_sine Y off st k (2 * G) k' (2 * G) h half))
 
   cosine_turn : (k : ℕ) → k ≤ G → Close (x * unit) (times (whole unit) (odd Y cosine off st k (2 * G)))
       (add (times (whole (entry (k * st))) (plain Y cosine (off + st) (2 * st) k (2 * G))) (times (opposite (whole (entry (32 - k * st)))) (plain Y sine (off + st) (2 * st) k (2 * G))))
@@ -141,31 +141,31 @@ module _ (y : ℕ → ℕ) (small : (i : ℕ) → length (value_of (y i)) ≤ 2 
 
       real : Close (6 * unit + (c + s) * e + x) (times (whole unit) (less unit b.t)) (odd Y cosine off st k (2 * G))
       real =
-          real-near unit e x (pow_pos 61) c s (o k) (o (2 * G - k)) _ _ (value_of (o k)) (value_of (o (2 * G - k))) (odd Y cosine off st k (2 * G)) (odd Y sine off st k (2 * G))
+          real_near unit e x (pow_pos 61) c s (o k) (o (2 * G - k)) _ _ (value_of (o k)) (value_of (o (2 * G - k))) (odd Y cosine off st k (2 * G)) (odd Y sine off st k (2 * G))
           (plain Y cosine (off + st) (2 * st) k (2 * G)) (plain Y sine (off + st) (2 * st) k (2 * G)) (value (o k)) (value (o (2 * G - k))) (ho.re k (omega arith)) (ho.im k low (omega arith))
           b.t (product (o k) c).most (product (o k) c).least (product (o (2 * G - k)) s).most (product (o (2 * G - k)) s).least b.real (cosine_turn k (omega arith))
 
       imaginary : Close (6 * unit + (c + s) * e + x) (times (whole unit) (opposite (less unit b.u))) (odd Y sine off st k (2 * G))
       imaginary =
-          imaginary-near unit e x (pow_pos 61) c s (o k) (o (2 * G - k)) _ _ (value_of (o k)) (value_of (o (2 * G - k))) (odd Y cosine off st k (2 * G)) (odd Y sine off st k (2 * G))
+          imaginary_near unit e x (pow_pos 61) c s (o k) (o (2 * G - k)) _ _ (value_of (o k)) (value_of (o (2 * G - k))) (odd Y cosine off st k (2 * G)) (odd Y sine off st k (2 * G))
           (plain Y cosine (off + st) (2 * st) k (2 * G)) (plain Y sine (off + st) (2 * st) k (2 * G)) (value (o k)) (value (o (2 * G - k))) (ho.re k (omega arith)) (ho.im k low (omega arith))
           b.u (product (o (2 * G - k)) c).most (product (o (2 * G - k)) c).least (product (o k) s).most (product (o k) s).least b.imaginary (sine_turn k (omega arith))
 
       word_a : Re k k
-      word_a = close_weaken fits (joined unit _ (value_of (f k)) (less unit b.t) _ _ _ (sum-turned unit _ _ (value_of (f k)) (r k) (f k) b.t (value (r k)) (value (f k)) b.sum-real) (sums cosine k) (hf.re k (omega arith)) real)
+      word_a = close_weaken fits (joined unit _ (value_of (f k)) (less unit b.t) _ _ _ (sum-turned unit _ _ (value_of (f k)) (r k) (f k) b.t (value (r k)) (value (f k)) b.sum_real) (sums cosine k) (hf.re k (omega arith)) real)
 
       word_b : Re (2 * G - k) (2 * G - k)
       word_b =
           close_weaken fits (joined unit _ (value_of (f k)) (opposite (less unit b.t)) _ _ _ (difference_turned unit _ _ (value_of (f k)) (r (2 * G - k)) (f k) b.t (value (r (2 * G - k))) (value (f k)) b.difference_real)
           (mirror_cosine k (2 * G - k) (omega arith)) (hf.re k (omega arith)) (flipped unit (less unit b.t) real))
 
-      word-d : Im (4 * G - k) k
-      word-d =
-          close_weaken fits (joined unit _ (opposite (value_of (f (2 * G - k)))) (opposite (less unit b.u)) _ _ _ (sum-opposite unit _ _ (value_of (f k)) (r (4 * G - k)) (f (2 * G - k)) b.u (value (r (4 * G - k))) (value (f (2 * G - k))) b.sum-imaginary)
+      word_d : Im (4 * G - k) k
+      word_d =
+          close_weaken fits (joined unit _ (opposite (value_of (f (2 * G - k)))) (opposite (less unit b.u)) _ _ _ (sum-opposite unit _ _ (value_of (f k)) (r (4 * G - k)) (f (2 * G - k)) b.u (value (r (4 * G - k))) (value (f (2 * G - k))) b.sum_imaginary)
           (sums sine k) (hf.im k low (omega arith)) imaginary)
 
-      word-e : Im (2 * G + k) (2 * G - k)
-      word-e =
+      word_e : Im (2 * G + k) (2 * G - k)
+      word_e =
           close_weaken fits (joined unit _ (opposite (opposite (value_of (f (2 * G - k))))) (opposite (less unit b.u)) _ _ _ (difference_other unit _ _ (value_of (f k)) (r (2 * G + k)) (f (2 * G - k)) b.u (value (r (2 * G + k))) (value (f (2 * G - k))) b.difference_imaginary)
           (mirror_sine k (2 * G - k) (omega arith)) (flipped unit (opposite (value_of (f (2 * G - k)))) (hf.im k low (omega arith))) imaginary)
 
@@ -179,8 +179,8 @@ module _ (y : ℕ → ℕ) (small : (i : ℕ) → length (value_of (y i)) ≤ 2 
     word_first : Re 0 0
     word_first = close_weaken ends (joined unit _ (value_of (f 0)) (value_of (o 0)) _ _ _ (sum_plain unit _ _ (value_of (o 0)) (r 0) (f 0) (o 0) (value (r 0)) (value (f 0)) (value (o 0)) h.first) (sums cosine 0) (hf.re 0 zero-le) other)
 
-    word-middle : Re (2 * G) (2 * G)
-    word-middle =
+    word_middle : Re (2 * G) (2 * G)
+    word_middle =
         close_weaken ends (joined unit _ (value_of (f 0)) (opposite (value_of (o 0))) _ _ _ (difference_plain unit _ _ (value_of (o 0)) (r (2 * G)) (f 0) (o 0) (value (r (2 * G))) (value (f 0)) (value (o 0)) h.middle)
         (mirror_cosine 0 (2 * G) (omega arith)) (hf.re 0 zero-le) (flipped unit (value_of (o 0)) other))
 
@@ -214,7 +214,7 @@ module _ (y : ℕ → ℕ) (small : (i : ℕ) → length (value_of (y i)) ≤ 2 
         | inl a ↦ elim (eq-or-lt_of_le a) [
           | inl z ↦ subst (λ (i : ℕ). Re i i) z word_same
           | inr q ↦ elim (eq-or-lt_of_le l) [
-            | inl z ↦ subst (λ (i : ℕ). Re i i) (sym z) word-middle
+            | inl z ↦ subst (λ (i : ℕ). Re i i) (sym z) word_middle
             | inr m ↦ subst (λ (i : ℕ). Re i i) (back m) (word_b (2 * G - k) (above m) (below q))
           ]
         ]
@@ -232,10 +232,10 @@ module _ (y : ℕ → ℕ) (small : (i : ℕ) → length (value_of (y i)) ≤ 2 
 
     all_im : (k : ℕ) → 1 ≤ k → k < 2 * G → Im (4 * G - k) k
     all_im k l m = elim (le-or-lt G k) [
-      | inr a ↦ word-d k l a
+      | inr a ↦ word_d k l a
       | inl a ↦ elim (eq-or-lt_of_le a) [
         | inl z ↦ subst (λ (i : ℕ). Im (4 * G - i) i) z (subst (λ (i : ℕ). Im i G) three word-turned)
-        | inr q ↦ subst (λ (i : ℕ). Im i k) (far m) (subst (λ (i : ℕ). Im (2 * G + (2 * G - k)) i) (back m) (word-e (2 * G - k) (above m) (below q)))
+        | inr q ↦ subst (λ (i : ℕ). Im i k) (far m) (subst (λ (i : ℕ). Im (2 * G + (2 * G - k)) i) (back m) (word_e (2 * G - k) (above m) (below q)))
       ]
     ]
       where

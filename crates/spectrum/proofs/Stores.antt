@@ -60,19 +60,19 @@ module _ (l : List ℕ) (g st k : ℕ) (low : 1 ≤ k) (high : k < g) (as_many :
     abbrev r : ℕ → ℕ
     r i = get_or (set (w₃ a b e) (4 * g - k) d) i 0
 
-    at-k : r k ≡ a
-    at-k =
+    at_k : r k ≡ a
+    at_k =
         past (w₃ a b e) (4 * g - k) k d (λ h. omega arith) ∙ past (w₂ a b) (2 * g + k) k e (λ h. omega arith) ∙ past (w₁ a) (2 * g - k) k b (λ h. omega arith)
         ∙ here l k a (omega arith)
 
     at_b : r (2 * g - k) ≡ b
     at_b = past (w₃ a b e) (4 * g - k) (2 * g - k) d (λ h. omega arith) ∙ past (w₂ a b) (2 * g + k) (2 * g - k) e (λ h. omega arith) ∙ here (w₁ a) (2 * g - k) b (wing_in a)
 
-    at-e : r (2 * g + k) ≡ e
-    at-e = past (w₃ a b e) (4 * g - k) (2 * g + k) d (λ h. omega arith) ∙ here (w₂ a b) (2 * g + k) e (wing_in_2 a b)
+    at_e : r (2 * g + k) ≡ e
+    at_e = past (w₃ a b e) (4 * g - k) (2 * g + k) d (λ h. omega arith) ∙ here (w₂ a b) (2 * g + k) e (wing_in_2 a b)
 
-    at-d : r (4 * g - k) ≡ d
-    at-d = here (w₃ a b e) (4 * g - k) d (wing_in_3 a b e)
+    at_d : r (4 * g - k) ≡ d
+    at_d = here (w₃ a b e) (4 * g - k) d (wing_in_3 a b e)
 
     pub winged : Butterfly (k * st) (get_or l k 0) (get_or l (2 * g - k) 0) (get_or l (2 * g + k) 0) (get_or l (4 * g - k) 0) a b e d → Winged g st k (λ i. get_or l i 0) r
     winged h = record {
@@ -81,10 +81,10 @@ module _ (l : List ℕ) (g st k : ℕ) (low : 1 ≤ k) (high : k < g) (as_many :
         u = h.u;
         real = h.real;
         imaginary = h.imaginary;
-        sum-real = omega (arith, at-k, h.sum-real);
+        sum_real = omega (arith, at_k, h.sum_real);
         difference_real = omega (arith, at_b, h.difference_real);
-        sum-imaginary = omega (arith, at-d, h.sum-imaginary);
-        difference_imaginary = omega (arith, at-e, h.difference_imaginary);
+        sum_imaginary = omega (arith, at_d, h.sum_imaginary);
+        difference_imaginary = omega (arith, at_e, h.difference_imaginary);
       };
       others = λ i n n₂ n₃ n₄. past (w₃ a b e) (4 * g - k) i d n₄ ∙ past (w₂ a b) (2 * g + k) i e n₃ ∙ past (w₁ a) (2 * g - k) i b n₂ ∙ past l k i a n;
     }

@@ -80,8 +80,8 @@ unfolding all near entry sine_below
 half_sines = tt
 
 module _ (a b : ℕ) where
-  whole-place : (a + b) % 128 ≡ 0 → (128 - b % 128) % 128 ≡ a % 128
-  whole-place e = omega arith
+  whole_place : (a + b) % 128 ≡ 0 → (128 - b % 128) % 128 ≡ a % 128
+  whole_place e = omega arith
 
   half_place : (a + b) % 128 ≡ 64 → (192 - b % 128) % 128 ≡ a % 128
   half_place e = omega arith
@@ -90,10 +90,10 @@ module _ (a b : ℕ) where
   rest = omega arith
 
   pub whole-cosine : (a + b) % 128 ≡ 0 → Close 0 (cosine a) (cosine b)
-  whole-cosine e = subst (λ (m : ℕ). Close 0 (cosine_below m) (cosine b)) (whole-place e) (tested 128 0 (λ j. cosine_below ((128 - j) % 128)) cosine_below whole_cosines (b % 128) rest)
+  whole-cosine e = subst (λ (m : ℕ). Close 0 (cosine_below m) (cosine b)) (whole_place e) (tested 128 0 (λ j. cosine_below ((128 - j) % 128)) cosine_below whole_cosines (b % 128) rest)
 
   pub whole-sine : (a + b) % 128 ≡ 0 → Close 0 (sine a) (opposite (sine b))
-  whole-sine e = subst (λ (m : ℕ). Close 0 (sine_below m) (opposite (sine b))) (whole-place e) (tested 128 0 (λ j. sine_below ((128 - j) % 128)) (λ j. opposite (sine_below j)) whole_sines (b % 128) rest)
+  whole-sine e = subst (λ (m : ℕ). Close 0 (sine_below m) (opposite (sine b))) (whole_place e) (tested 128 0 (λ j. sine_below ((128 - j) % 128)) (λ j. opposite (sine_below j)) whole_sines (b % 128) rest)
 
   pub half_cosine : (a + b) % 128 ≡ 64 → Close 0 (cosine a) (opposite (cosine b))
   half_cosine e = subst (λ (m : ℕ). Close 0 (cosine_below m) (opposite (cosine b))) (half_place e) (tested 128 0 (λ j. cosine_below ((192 - j) % 128)) (λ j. opposite (cosine_below j)) half_cosines (b % 128) rest)

@@ -16,14 +16,14 @@ use Rattle.spectrum.proofs.Blocks.{within}
 
 -- ---- a butterfly has one result
 module _ (j er ei or oi a b e d a' b' e''' d' : ℕ) (h : Butterfly j er ei or oi a b e d) (g : Butterfly j er ei or oi a' b' e''' d') where
-  same-t : h.t ≡ g.t
-  same-t = omega (arith, h.real, g.real)
+  same_t : h.t ≡ g.t
+  same_t = omega (arith, h.real, g.real)
 
-  same-u : h.u ≡ g.u
-  same-u = omega (arith, h.imaginary, g.imaginary)
+  same_u : h.u ≡ g.u
+  same_u = omega (arith, h.imaginary, g.imaginary)
 
   wings : (a ≡ a') × (b ≡ b') × (e ≡ e''') × (d ≡ d')
-  wings = (omega (arith, same-t, h.sum-real, g.sum-real), omega (arith, same-t, h.difference_real, g.difference_real), omega (arith, same-u, h.difference_imaginary, g.difference_imaginary), omega (arith, same-u, h.sum-imaginary, g.sum-imaginary))
+  wings = (omega (arith, same_t, h.sum_real, g.sum_real), omega (arith, same_t, h.difference_real, g.difference_real), omega (arith, same_u, h.difference_imaginary, g.difference_imaginary), omega (arith, same_u, h.sum_imaginary, g.sum_imaginary))
 
 -- the places of a block of 4 g words
 data Place (g : ℕ) : ℕ → Type 0 where
@@ -188,8 +188,8 @@ blocks_same ys ys' r r' n n' same c c' f f' = filled_same (λ i. get_or ys i uni
     ]
 
 -- ---- one largest pattern, and one scale
-largest-most : (xs : List Float) (m m' : ℕ) → Largest xs 128 m → Largest xs 128 m' → m ≤ m'
-largest-most xs m m' h h' = elim (eq-zero-or-pos m) [ inl z ↦ none z | inr p ↦ let (i, l, e) = h.there (λ z. above p z) in le_trans (le_of_eq (sym e)) (h'.most i l) ]
+largest_most : (xs : List Float) (m m' : ℕ) → Largest xs 128 m → Largest xs 128 m' → m ≤ m'
+largest_most xs m m' h h' = elim (eq-zero-or-pos m) [ inl z ↦ none z | inr p ↦ let (i, l, e) = h.there (λ z. above p z) in le_trans (le_of_eq (sym e)) (h'.most i l) ]
   where
     none : m ≡ 0 → m ≤ m'
     none z = omega arith
@@ -197,8 +197,8 @@ largest-most xs m m' h h' = elim (eq-zero-or-pos m) [ inl z ↦ none z | inr p �
     above : 0 < m → m ≡ 0 → ⊥
     above p z = omega arith
 
-scale-most : (m e e''' : ℕ) → Scale m e → Scale m e''' → e ≤ e'''
-scale-most m e e''' h h' = elim (eq-zero-or-pos m) [ inl z ↦ le_trans (le_of_eq (h.none z)) (least e''') | inr p ↦ below (pow_back_lt e (1 + e''') (lt_of_le_of_lt (h.below (λ z. above p z)) (twice h'.above))) ]
+scale_most : (m e e''' : ℕ) → Scale m e → Scale m e''' → e ≤ e'''
+scale_most m e e''' h h' = elim (eq-zero-or-pos m) [ inl z ↦ le_trans (le_of_eq (h.none z)) (least e''') | inr p ↦ below (pow_back_lt e (1 + e''') (lt_of_le_of_lt (h.below (λ z. above p z)) (twice h'.above))) ]
   where
     least : (n : ℕ) → 0 ≤ n
     least n = omega arith
@@ -217,29 +217,29 @@ scale-most m e e''' h h' = elim (eq-zero-or-pos m) [ inl z ↦ le_trans (le_of_e
 
 -- ---- so the outputs are one
 module _ (xs : List Float) (re im re' im' : List ℕ) (h : IsTransform xs re im) (h' : IsTransform xs re' im') where
-  same-m : h.m ≡ h'.m
-  same-m = le_antisymm (largest-most xs h.m h'.m h.largest h'.largest) (largest-most xs h'.m h.m h'.largest h.largest)
+  same_m : h.m ≡ h'.m
+  same_m = le_antisymm (largest_most xs h.m h'.m h.largest h'.largest) (largest_most xs h'.m h.m h'.largest h.largest)
 
-  same-e : h.e ≡ h'.e
-  same-e = le_antisymm (scale-most h.m h.e h'.e h.scale (subst (λ (m : ℕ). Scale m h'.e) (sym same-m) h'.scale)) (scale-most h.m h'.e h.e (subst (λ (m : ℕ). Scale m h'.e) (sym same-m) h'.scale) h.scale)
+  same_e : h.e ≡ h'.e
+  same_e = le_antisymm (scale_most h.m h.e h'.e h.scale (subst (λ (m : ℕ). Scale m h'.e) (sym same_m) h'.scale)) (scale_most h.m h'.e h.e (subst (λ (m : ℕ). Scale m h'.e) (sym same_m) h'.scale) h.scale)
 
   loaded' : Loaded h.e xs h'.ys
-  loaded' = subst (λ (e : ℕ). Loaded e xs h'.ys) (sym same-e) h'.loaded
+  loaded' = subst (λ (e : ℕ). Loaded e xs h'.ys) (sym same_e) h'.loaded
 
   words : (k : ℕ) → k < 128 → get_or h.r k 0 ≡ get_or h'.r k 0
   words = blocks_same h.ys h'.ys h.r h'.r h.loaded.as_many loaded'.as_many (λ i l. h.loaded.each i l ∙ sym (loaded'.each i l)) h.count h'.count h.fills h'.fills
 
   real' : StoredReal h.e h'.r re'
-  real' = subst (λ (e : ℕ). StoredReal e h'.r re') (sym same-e) h'.real
+  real' = subst (λ (e : ℕ). StoredReal e h'.r re') (sym same_e) h'.real
 
   imaginary' : StoredImaginary h.e h'.r im'
-  imaginary' = subst (λ (e : ℕ). StoredImaginary e h'.r im') (sym same-e) h'.imaginary
+  imaginary' = subst (λ (e : ℕ). StoredImaginary e h'.r im') (sym same_e) h'.imaginary
 
-  pub one-real : (k : ℕ) → k ≤ 64 → get_or re k 0 ≡ get_or re' k 0
-  one-real k l = h.real.each k l ∙ ap (bits_of h.e) (words k (omega arith)) ∙ sym (real'.each k l)
+  pub one_real : (k : ℕ) → k ≤ 64 → get_or re k 0 ≡ get_or re' k 0
+  one_real k l = h.real.each k l ∙ ap (bits_of h.e) (words k (omega arith)) ∙ sym (real'.each k l)
 
-  pub one-imaginary : (k : ℕ) → k ≤ 64 → get_or im k 0 ≡ get_or im' k 0
-  one-imaginary k l = elim (le-or-lt 64 k) [
+  pub one_imaginary : (k : ℕ) → k ≤ 64 → get_or im k 0 ≡ get_or im' k 0
+  one_imaginary k l = elim (le-or-lt 64 k) [
     | inl g ↦ let e = both l g in ap (λ (i : ℕ). get_or im i 0) e ∙ h.imaginary.last ∙ sym imaginary'.last ∙ ap (λ (i : ℕ). get_or im' i 0) (sym e)
     | inr g ↦ elim (eq-zero-or-pos k) [
       | inl z ↦ ap (λ (i : ℕ). get_or im i 0) z ∙ h.imaginary.first ∙ sym imaginary'.first ∙ ap (λ (i : ℕ). get_or im' i 0) (sym z)

@@ -25,7 +25,7 @@ use Rattle.spectrum.proofs.Outputs.{bits_below, Rounds, sized}
 pub record Output (E : ℕ) (W : Difference) (b : ℕ) : Type 0 where
   pub number : Number (of_bits binary32 b)
   pub back : to_bits binary32 (of_bits binary32 b) ≡ b
-  pub zero-plus : mag (of_bits binary32 b) ≡ 0 → b ≡ 0
+  pub zero_plus : mag (of_bits binary32 b) ≡ 0 → b ≡ 0
   pub rounds : Close (E * length W + 2 ^ 76) (times (whole (2 ^ 77)) (units_of (of_bits binary32 b))) (times (whole (2 ^ 24)) (times (whole E) W))
 
 -- a float of so many units, of either sign
@@ -33,11 +33,11 @@ sides : (x : Float) (s : Bool) (u : ℕ) → Is x s u → (P x ≡ cond s 0 u) �
 sides x s u h = (ap₂ (λ b n. cond b 0 n) h.sign h.units, ap₂ (λ b n. cond b n 0) h.sign h.units)
 
 -- both signs of a rounding
-plus-near : (E n u : ℕ) → Rounds (n * E) u → Close (E * (n + 0) + 2 ^ 76) (times (whole (2 ^ 77)) (record { plus = u; minus = 0 })) (times (whole (2 ^ 24)) (times (whole E) (record { plus = n; minus = 0 })))
-plus-near E n u h = record { most = omega (arith, h.most); least = omega (arith, h.least) }
+plus_near : (E n u : ℕ) → Rounds (n * E) u → Close (E * (n + 0) + 2 ^ 76) (times (whole (2 ^ 77)) (record { plus = u; minus = 0 })) (times (whole (2 ^ 24)) (times (whole E) (record { plus = n; minus = 0 })))
+plus_near E n u h = record { most = omega (arith, h.most); least = omega (arith, h.least) }
 
-minus-near : (E n u : ℕ) → Rounds (n * E) u → Close (E * (0 + n) + 2 ^ 76) (times (whole (2 ^ 77)) (record { plus = 0; minus = u })) (times (whole (2 ^ 24)) (times (whole E) (record { plus = 0; minus = n })))
-minus-near E n u h = record { most = omega (arith, h.least); least = omega (arith, h.most) }
+minus_near : (E n u : ℕ) → Rounds (n * E) u → Close (E * (0 + n) + 2 ^ 76) (times (whole (2 ^ 77)) (record { plus = 0; minus = u })) (times (whole (2 ^ 24)) (times (whole E) (record { plus = 0; minus = n })))
+minus_near E n u h = record { most = omega (arith, h.least); least = omega (arith, h.most) }
 
 -- zero
 pub zero_output : (E : ℕ) → Output E (whole 0) 0
@@ -47,7 +47,7 @@ zero_output E =
     record {
       number = h.number;
       back = pattern_back 0 (omega arith) (no_nan false 0 (omega arith));
-      zero-plus = λ z. refl;
+      zero_plus = λ z. refl;
       rounds = rw (s.0, s.1) (record { most = omega arith; least = omega arith });
     }
 
@@ -77,8 +77,8 @@ module _ (e v : ℕ) (high : e ≤ 269) (h : Holdable v) where
         record {
           number = i.number;
           back = back;
-          zero-plus = λ z. size-zero (size_bits_of e n) (sym (size_of (of_bits binary32 (size_bits_of e n)) i.number ∙ ap size_in (ap (λ (b : ℕ). b % 2147483648) back ∙ rest below)) ∙ z);
-          rounds = rw (s.0, s.1, none) (plus-near (2 ^ e) n t.units t.rounds);
+          zero_plus = λ z. size-zero (size_bits_of e n) (sym (size_of (of_bits binary32 (size_bits_of e n)) i.number ∙ ap size_in (ap (λ (b : ℕ). b % 2147483648) back ∙ rest below)) ∙ z);
+          rounds = rw (s.0, s.1, none) (plus_near (2 ^ e) n t.units t.rounds);
         }
       where
         rest : size_bits_of e n < 255 * 8388608 → size_bits_of e n % 2147483648 ≡ size_bits_of e n
@@ -89,15 +89,15 @@ module _ (e v : ℕ) (high : e ≤ 269) (h : Holdable v) where
     abbrev k : ℕ
     k = unit - v
 
-    few-below : k < 2 ^ 60
-    few-below = omega (arith, h.least)
+    few_below : k < 2 ^ 60
+    few_below = omega (arith, h.least)
 
     none_above : v - unit ≡ 0
     none_above = omega arith
 
     nothing : size_bits_of e k ≡ 0 → Output (2 ^ e) (value_of v) 0
     nothing z =
-        let t = sized k e few-below high true in
+        let t = sized k e few_below high true in
         let i = subst (λ (b : ℕ). Is (of_bits binary32 (sign_bit true + b)) true t.units) z t.is in
         let j = put true 0 0 (inl refl) (omega arith) (omega arith) in
         let units : t.units ≡ 0 = sym i.units ∙ j.units in
@@ -106,22 +106,22 @@ module _ (e v : ℕ) (high : e ≤ 269) (h : Holdable v) where
         record {
           number = o.number;
           back = o.back;
-          zero-plus = λ z. refl;
-          rounds = rw (s.0, s.1, none_above) (minus-near (2 ^ e) k 0 (subst (Rounds (k * 2 ^ e)) units t.rounds));
+          zero_plus = λ z. refl;
+          rounds = rw (s.0, s.1, none_above) (minus_near (2 ^ e) k 0 (subst (Rounds (k * 2 ^ e)) units t.rounds));
         }
 
     minus_output : ¬ (size_bits_of e k ≡ 0) → Output (2 ^ e) (value_of v) (size_bits_of e k + 2147483648)
     minus_output some =
-        let t = sized k e few-below high true in
+        let t = sized k e few_below high true in
         let i = subst (λ (b : ℕ). Is (of_bits binary32 b) true t.units) (add_comm 2147483648 (size_bits_of e k)) t.is in
         let s = sides (of_bits binary32 (size_bits_of e k + 2147483648)) true t.units i in
-        let below = bits_below k e few-below high in
+        let below = bits_below k e few_below high in
         let back = pattern_back (size_bits_of e k + 2147483648) (omega arith) (subst (λ (b : ℕ). T (not (nan_bits binary32 b))) (add_comm 2147483648 (size_bits_of e k)) (no_nan true (size_bits_of e k) below)) in
         record {
           number = i.number;
           back = back;
-          zero-plus = λ z. absurd (some (size-zero (size_bits_of e k) (sym (size_of (of_bits binary32 (size_bits_of e k + 2147483648)) i.number ∙ ap size_in (ap (λ (b : ℕ). b % 2147483648) back ∙ rest below)) ∙ z)));
-          rounds = rw (s.0, s.1, none_above) (minus-near (2 ^ e) k t.units t.rounds);
+          zero_plus = λ z. absurd (some (size-zero (size_bits_of e k) (sym (size_of (of_bits binary32 (size_bits_of e k + 2147483648)) i.number ∙ ap size_in (ap (λ (b : ℕ). b % 2147483648) back ∙ rest below)) ∙ z)));
+          rounds = rw (s.0, s.1, none_above) (minus_near (2 ^ e) k t.units t.rounds);
         }
       where
         rest : size_bits_of e k < 255 * 8388608 → (size_bits_of e k + 2147483648) % 2147483648 ≡ size_bits_of e k

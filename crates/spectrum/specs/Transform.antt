@@ -98,7 +98,7 @@ pub record Transform (xs : List Float) (nre nim : ℕ) (code : ℕ) (r : List Fl
   pub as_many : Accepts xs nre nim → (length r.0 ≡ 65) × (length r.1 ≡ 65)
   -- each a finite float, and no zero of them is -0
   pub finite : Accepts xs nre nim → (k : ℕ) → k ≤ 64 → Number (at r.0 k) × Number (at r.1 k)
-  pub zero-plus : Accepts xs nre nim → (k : ℕ) → k ≤ 64 → (mag (at r.0 k) ≡ 0 → float_bits (at r.0 k) ≡ 0) × (mag (at r.1 k) ≡ 0 → float_bits (at r.1 k) ≡ 0)
+  pub zero_plus : Accepts xs nre nim → (k : ℕ) → k ≤ 64 → (mag (at r.0 k) ≡ 0 → float_bits (at r.0 k) ≡ 0) × (mag (at r.1 k) ≡ 0 → float_bits (at r.1 k) ≡ 0)
   -- what the frame alone makes them, so that equal frames give equal outputs: of two such results each is the other (proofs/Unique)
   pub alone : Accepts xs nre nim → IsTransform xs (list_bits r.0) (list_bits r.1)
   -- each within 2 ^ -24 of its own size, 2 ^ -42 of the largest |x_n| and 2 ^ -150 of the exact sum

@@ -31,9 +31,9 @@ pub record Butterfly (j er ei or oi a b e d : ℕ) : Type 0 where
   pub u : ℕ
   pub real : t + (entry j + entry (32 - j)) ≡ part or (8 * entry j) + part oi (8 * entry (32 - j)) + 2 * unit
   pub imaginary : u + (part or (8 * entry (32 - j)) + entry j) ≡ part oi (8 * entry j) + (2 * unit + entry (32 - j))
-  pub sum-real : a + 2 * unit ≡ er + t
+  pub sum_real : a + 2 * unit ≡ er + t
   pub difference_real : b + t ≡ er + 2 * unit
-  pub sum-imaginary : d + 2 * unit ≡ ei + u
+  pub sum_imaginary : d + 2 * unit ≡ ei + u
   pub difference_imaginary : e + ei ≡ u
 
 -- a block of n words holds the transform of n values: the real part k at k, k from 0 to n / 2, the imaginary part k at n - k, k from 1 to n / 2 - 1

@@ -13,9 +13,9 @@ unfolding apart
 near_apart x y = omega arith
 
 -- and no further than any bound
-pub apart-least : {x y d : ℕ} → Near x y d → apart x y ≤ d
+pub apart_least : {x y d : ℕ} → Near x y d → apart x y ≤ d
 unfolding apart
-apart-least h = omega arith
+apart_least h = omega arith
 
 -- the same where both are multiplied by w
 pub apart-scaled : (x y w d : ℕ) → Near (x * w) (y * w) d → apart x y * w ≤ d

@@ -12,7 +12,7 @@ use lib.Ieee.{Float, nan, binary32, add}
 use Rattle.units.proofs.Naturals.{le-or-lt, pow_back, pow_split}
 use Rattle.sums.specs.Dot.{Lengths, dot_of}
 use Rattle.sums.specs.Value.{block_of, sum_of, Held}
-use Rattle.sums.proofs.Pieces.{sum-some, piece}
+use Rattle.sums.proofs.Pieces.{sum_some, piece}
 
 -- ---- binary digits
 next_power : (l : ℕ) → 2 ^ (l + 1) ≡ 2 ^ l * 2
@@ -24,8 +24,8 @@ larger-power l k h = pow_split (l + 1) k (omega arith) ∙ through (2 ^ (l + 1))
     through : (v w x : ℕ) → v ≡ w * 2 → x * v ≡ x * 2 * w
     through v w x e = rw e (omega arith)
 
-same-part : (x y w r : ℕ) → x * w ≡ y * w + r → r < w → x ≡ y
-same-part x y w r e l = elim (le-or-lt x y) [
+same_part : (x y w r : ℕ) → x * w ≡ y * w + r → r < w → x ≡ y
+same_part x y w r e l = elim (le-or-lt x y) [
   | inl h ↦ elim (le-or-lt y x) [ inl g ↦ omega arith | inr g ↦ absurd (let m = mul-le-mul_right w g in omega arith) ]
   | inr h ↦ absurd (let m = mul-le-mul_right w h in omega arith)
 ]
@@ -46,15 +46,15 @@ record Digits (c l q k r : ℕ) : Type 0 where
 digits : (c l q k r : ℕ) → (c % 2 ≡ 1 → ⊥) → (c + 1) * 2 ^ l ≡ (2 * q + 1) * 2 ^ k + r → r < 2 ^ k → Digits c l q k r
 digits c l q k r even e small = record {
   at_least = elim (le-or-lt l k) [ inl h ↦ h | inr h ↦ absurd (lower (2 ^ (l - (k + 1))) (2 ^ k) (larger-power k l h) e small) ];
-  here = λ f. let g = same-part (c + 1) (2 * q + 1) (2 ^ l) r (rw f at e) (rw f at small) in omega arith;
+  here = λ f. let g = same_part (c + 1) (2 * q + 1) (2 ^ l) r (rw f at e) (rw f at small) in omega arith;
   above = λ h. elim (le-or-lt 1 r) [ inl g ↦ g | inr g ↦ absurd (higher (2 ^ (k - (l + 1))) (2 ^ l) (pow_pos l) (larger-power l k h) e (omega arith)) ];
 }
   where
     lower : (x w : ℕ) → 2 ^ l ≡ x * 2 * w → (c + 1) * 2 ^ l ≡ (2 * q + 1) * w + r → r < w → ⊥
-    lower x w f g h = let s = same-part ((c + 1) * x * 2) (2 * q + 1) w r (omega (arith, rw f at g)) h in omega arith
+    lower x w f g h = let s = same_part ((c + 1) * x * 2) (2 * q + 1) w r (omega (arith, rw f at g)) h in omega arith
 
     higher : (x w : ℕ) → 0 < w → 2 ^ k ≡ x * 2 * w → (c + 1) * w ≡ (2 * q + 1) * 2 ^ k + r → r ≡ 0 → ⊥
-    higher x w p f g z = let s = same-part (c + 1) ((2 * q + 1) * x * 2) w 0 (omega (arith, rw f at g)) p in omega arith
+    higher x w p f g z = let s = same_part (c + 1) ((2 * q + 1) * x * 2) w 0 (omega (arith, rw f at g)) p in omega arith
 
 module _ (a b : List Float) where
   -- 2 ^ l blocks behind the first p
@@ -165,7 +165,7 @@ module _ (a b : List Float) where
 
     -- no digit is left: the sum of all products
     pub collected : 64 ≤ length a → c ≤ 0 → s ≡ dot_of a b
-    collected some none = f ∙ ap (λ (n : ℕ). sum_of (drop n a) (drop n b)) (start (2 ^ l)) ∙ sum-some a b (omega arith)
+    collected some none = f ∙ ap (λ (n : ℕ). sum_of (drop n a) (drop n b)) (start (2 ^ l)) ∙ sum_some a b (omega arith)
       where
         start : (w : ℕ) → 64 * (c * w) ≡ 0
         start w = let z : c ≡ 0 = omega arith in rw z (omega arith)

@@ -14,16 +14,16 @@ use Rattle.units.proofs.Ranges.{zero_units}
 use Rattle.sums.specs.Sum.{Intermediates, above, below, size, apart, NearSum}
 use Rattle.sums.specs.Dot.{Lengths, Elements, Accepts, Dot, products, dot_sum, dot_of, levels, most_roundings, sum_over}
 use Rattle.sums.proofs.Count.{Factors, added, one, roundings}
-use Rattle.sums.proofs.Trees.{intermediates, last-finite, total-number, finite_factors, factors, tree_near, near-more}
-use Rattle.sums.proofs.Rows.{added_pairs, added-products, rounded_pairs, rounded-products, steady, length-products}
+use Rattle.sums.proofs.Trees.{intermediates, last_finite, total-number, finite_factors, factors, tree_near, near_more}
+use Rattle.sums.proofs.Rows.{added_pairs, added_products, rounded_pairs, rounded-products, steady, length-products}
 use Rattle.sums.proofs.Levels.{enough, least, no_more}
-use Rattle.sums.proofs.Lists.{Fits, as_many, finite-elements, number-elements}
+use Rattle.sums.proofs.Lists.{Fits, as_many, finite_elements, number_elements}
 use Rattle.sums.proofs.Pieces.{dot_empty}
 
 module _ (a b : List Float) (l : Lengths a b) where
   -- the order has every product once
   added_dot : (f : Float → Float → ℕ) → added f (dot_sum a b) ≡ sum_over f a b
-  added_dot f = added_pairs f 16 (products a b) (le_trans (le_of_eq (length-products a b l.same)) l.most) ∙ added-products f a b
+  added_dot f = added_pairs f 16 (products a b) (le_trans (le_of_eq (length-products a b l.same)) l.most) ∙ added_products f a b
 
   -- none goes through more roundings than there are levels, and its own
   rounded_dot : roundings (dot_sum a b) ≤ most_roundings (length a)
@@ -35,10 +35,10 @@ module _ (a b : List Float) (l : Lengths a b) where
       rw e (omega arith)
 
   factors_dot : Fits a → Fits b → Elements a b → Factors (dot_sum a b)
-  factors_dot p q e = factors (dot_sum a b) (added_dot _ ∙ number-elements a b p q e)
+  factors_dot p q e = factors (dot_sum a b) (added_dot _ ∙ number_elements a b p q e)
 
   finite_dot : T (finite (dot_of a b)) → Elements a b
-  finite_dot f = finite-elements a b l.same (rw (added_dot _) at (finite_factors (dot_sum a b) f))
+  finite_dot f = finite_elements a b l.same (rw (added_dot _) at (finite_factors (dot_sum a b) f))
 
   -- so the law of sums is the bound
   dot_near : Fits a → Fits b → Elements a b → Intermediates (dot_sum a b) → NearSum (most_roundings (length a)) (length a) (dot_of a b) (sum_over above a b) (sum_over below a b) (sum_over size a b)
@@ -94,14 +94,14 @@ module _ (a b : List Float) {before : ℕ} where
   -- finite elements and a result that is not finite: one of the intermediate results, the result among them, is not
   pub refused_overflow : Lengths a b → Elements a b → ¬ T (finite (dot_of a b)) → Ends float_bits (Dot a b) 3 before before
   refused_overflow l e n =
-      let not-all : ¬ Intermediates (dot_sum a b) = λ i. n (last-finite (dot_sum a b) i) in
+      let not-all : ¬ Intermediates (dot_sum a b) = λ i. n (last_finite (dot_sum a b) i) in
       refused 3 (λ z. omega arith) (λ h. not-all h.intermediates) (λ m. absurd (m l)) (λ g m. absurd (m e)) (λ g h m. refl) (λ c. not-all)
 
 -- ---- document 01's bound, with G = n u / (1 - n u), for every n: n products go through n roundings at most, in whatever order they are added
 pub as_asked : (a b : List Float) (code : ℕ) (r : Float) → Dot a b code r → Accepts a b → NearSum (length a) (length a) r (sum_over above a b) (sum_over below a b) (sum_over size a b)
 unfolding sum_over apart
 as_asked [] b code r d h = rw (d.empty h refl, zero_units.0, zero_units.1) (le_of_eq refl)
-as_asked (x ∷ a) b code r d h = near-more (most_roundings n) n n r (sum_over above (x ∷ a) b) (sum_over below (x ∷ a) b) (sum_over size (x ∷ a) b) (no_more n (omega arith)) (d.near h)
+as_asked (x ∷ a) b code r d h = near_more (most_roundings n) n n r (sum_over above (x ∷ a) b) (sum_over below (x ∷ a) b) (sum_over size (x ∷ a) b) (no_more n (omega arith)) (d.near h)
   where
     n : ℕ
     n = length (x ∷ a)

@@ -26,24 +26,24 @@ as_many (x ∷ a) [] e = absurd (omega arith)
 as_many (x ∷ a) (y ∷ b) e = let h = as_many a b (omega arith) in omega arith
 
 -- no factor is infinite or a NaN: every element is finite
-pub finite-elements : (a b : List Float) → length a ≡ length b → sum_over (failing finite) a b ≡ 0 → Elements a b
+pub finite_elements : (a b : List Float) → length a ≡ length b → sum_over (failing finite) a b ≡ 0 → Elements a b
 unfolding sum_over all_finite
-finite-elements [] [] e z = record { first = tt; second = tt }
-finite-elements [] (y ∷ b) e z = absurd (omega arith)
-finite-elements (x ∷ a) [] e z = absurd (omega arith)
-finite-elements (x ∷ a) (y ∷ b) e z =
+finite_elements [] [] e z = record { first = tt; second = tt }
+finite_elements [] (y ∷ b) e z = absurd (omega arith)
+finite_elements (x ∷ a) [] e z = absurd (omega arith)
+finite_elements (x ∷ a) (y ∷ b) e z =
     let t = counted (finite x && finite y) (omega arith) in
-    let r = finite-elements a b (omega arith) (omega arith) in
+    let r = finite_elements a b (omega arith) (omega arith) in
     record { first = and_i (finite x) (all_finite a) (and_l (finite x) (finite y) t) r.first; second = and_i (finite y) (all_finite b) (and_r (finite x) (finite y) t) r.second }
 
 -- every element is finite: all factors are finite f32
-pub number-elements : (a b : List Float) → Fits a → Fits b → Elements a b → sum_over (failing is_number) a b ≡ 0
+pub number_elements : (a b : List Float) → Fits a → Fits b → Elements a b → sum_over (failing is_number) a b ≡ 0
 unfolding sum_over all_finite is_number
-number-elements [] b p q e = refl
-number-elements (x ∷ a) [] p q e = refl
-number-elements (x ∷ a) (y ∷ b) p q e =
+number_elements [] b p q e = refl
+number_elements (x ∷ a) [] p q e = refl
+number_elements (x ∷ a) (y ∷ b) p q e =
     let u = and_i (fits binary32 x) (finite x) (p 0) (and_l (finite x) (all_finite a) e.first) in
     let v = and_i (fits binary32 y) (finite y) (q 0) (and_l (finite y) (all_finite b) e.second) in
     let t : failing is_number x y ≡ 0 = ap (λ (b : Bool). cond b 0 1) (is_true (is_number x && is_number y) (and_i (is_number x) (is_number y) u v)) in
-    let r = number-elements a b (λ i. p (suc i)) (λ i. q (suc i)) (record { first = and_r (finite x) (all_finite a) e.first; second = and_r (finite y) (all_finite b) e.second }) in
+    let r = number_elements a b (λ i. p (suc i)) (λ i. q (suc i)) (record { first = and_r (finite x) (all_finite a) e.first; second = and_r (finite y) (all_finite b) e.second }) in
     omega arith

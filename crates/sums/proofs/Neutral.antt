@@ -14,7 +14,7 @@ use lib.Ieee.Exact.{round_exact}
 use lib.Ieee.Fits.{down_pos, round-fits}
 use lib.Ieee.Scale.{round_same}
 use Rattle.units.specs.Units.{mag, negative, Number}
-use Rattle.units.proofs.Size.{mag_exact, value-mag, mag-lt, mag-digits, finite_of_mag}
+use Rattle.units.proofs.Size.{mag_exact, value-mag, mag-lt, mag_digits, finite_of_mag}
 use Rattle.units.proofs.Rounded.{round_real}
 use Rattle.units.proofs.Bits.{sign_bit, pattern}
 
@@ -43,22 +43,22 @@ round_own s m e f =
 
     is : (mag z ≡ mag x) × (negative z ≡ s)
     is =
-        let d = mag-digits x n in
+        let d = mag_digits x n in
         value-mag z s (mag x)
         (round_exact binary32 s (mag x) (2 ^ 149) d.0 d.1 (pow_pos 149) d.2 (lt_of_le_of_lt (le_of_eq (sym d.3)) (mag-lt x n)) (ap (λ (u : ℕ). u * 2 ^ 149) d.3))
 
 -- a size and nothing, with the sign -
-sum-nothing : (s : Bool) (a b c : ℕ) → b ≡ 0 → sum binary32 s a true b c ≡ round binary32 s a c
+sum_nothing : (s : Bool) (a b c : ℕ) → b ≡ 0 → sum binary32 s a true b c ≡ round binary32 s a c
 unfolding sum
-sum-nothing true a b c z = ap (λ (n : ℕ). round binary32 true n c) (omega arith)
-sum-nothing false a b c z = rw (z, le-ltb a 0 (omega arith)) (ap (λ (n : ℕ). round binary32 false n c) (omega arith))
+sum_nothing true a b c z = ap (λ (n : ℕ). round binary32 true n c) (omega arith)
+sum_nothing false a b c z = rw (z, le-ltb a 0 (omega arith)) (ap (λ (n : ℕ). round binary32 false n c) (omega arith))
 
 -- -0 is the pattern of the sign alone
-pub add-minus-zero : (x : Float) → T (fits binary32 x) → add binary32 x (of_bits binary32 2147483648) ≡ x
+pub add_minus_zero : (x : Float) → T (fits binary32 x) → add binary32 x (of_bits binary32 2147483648) ≡ x
 unfolding add of_bits
-add-minus-zero nan f = refl
-add-minus-zero (inf s) f = refl
-add-minus-zero (fin s m e) f =
-    sum-nothing s (m * up e * 1) (0 * 1 * down e) (down e * 1) (omega arith)
+add_minus_zero nan f = refl
+add_minus_zero (inf s) f = refl
+add_minus_zero (fin s m e) f =
+    sum_nothing s (m * up e * 1) (0 * 1 * down e) (down e * 1) (omega arith)
     ∙ ap₂ (round binary32 s) (mul-one (m * up e)) (mul-one (down e))
     ∙ round_own s m e f

@@ -16,7 +16,7 @@ use Rattle.sums.specs.Sum.{Sum, total}
 use Rattle.sums.specs.Dot.{Lengths, products, next_row, in_pairs, dot_of}
 use Rattle.sums.specs.Value.{Behind, block_of, minus_zero, sum_of, behind_last}
 use Rattle.sums.proofs.Rows.{twice, steady, cut, length-products, drop-products}
-use Rattle.sums.proofs.Neutral.{add-minus-zero}
+use Rattle.sums.proofs.Neutral.{add_minus_zero}
 
 -- ---- a block
 -- from its two halves
@@ -56,22 +56,22 @@ unfolding products next_row in_pairs total
 dot_empty [] b e = refl
 dot_empty (x ∷ a) b e = absurd (omega arith)
 
-pub sum-some : (a b : List Float) → 0 < length a → sum_of a b ≡ dot_of a b
+pub sum_some : (a b : List Float) → 0 < length a → sum_of a b ≡ dot_of a b
 unfolding sum_of
-sum-some [] b p = absurd (omega arith)
-sum-some (x ∷ a) b p = refl
+sum_some [] b p = absurd (omega arith)
+sum_some (x ∷ a) b p = refl
 
-sum-none : (a b : List Float) → length a ≡ 0 → sum_of a b ≡ minus_zero
+sum_none : (a b : List Float) → length a ≡ 0 → sum_of a b ≡ minus_zero
 unfolding sum_of
-sum-none [] b e = refl
-sum-none (x ∷ a) b e = absurd (omega arith)
+sum_none [] b e = refl
+sum_none (x ∷ a) b e = absurd (omega arith)
 
 module _ (k : ℕ) (a b : List Float) (same : length a ≡ length b) (most : length a ≤ 2 ^ 16) (least : 2 ^ k ≤ length a) where
   abbrev W : ℕ
   W = 2 ^ k
 
   whole : sum_of a b ≡ dot_of a b
-  whole = let p = pow_pos k in sum-some a b (omega arith)
+  whole = let p = pow_pos k in sum_some a b (omega arith)
 
   -- a row of no more than the block
   alone : length a ≡ W → dot_of a b ≡ block_of k a b
@@ -102,9 +102,9 @@ module _ (k : ℕ) (a b : List Float) (same : length a ≡ length b) (most : len
       let i = length-drop W a in
       elim (le-or-lt (length a) W) [
         | inl g ↦
-            whole ∙ alone (omega arith) ∙ sym (add-minus-zero (block_of k a b) (block_fits k a b))
-            ∙ ap (add binary32 (block_of k a b)) (sym (sum-none (drop W a) (drop W b) (omega arith)))
-        | inr g ↦ whole ∙ followed g l ∙ ap (add binary32 (block_of k a b)) (sym (sum-some (drop W a) (drop W b) (omega arith)))
+            whole ∙ alone (omega arith) ∙ sym (add_minus_zero (block_of k a b) (block_fits k a b))
+            ∙ ap (add binary32 (block_of k a b)) (sym (sum_none (drop W a) (drop W b) (omega arith)))
+        | inr g ↦ whole ∙ followed g l ∙ ap (add binary32 (block_of k a b)) (sym (sum_some (drop W a) (drop W b) (omega arith)))
       ]
 
 -- ---- pieces within two lists of the same length
@@ -149,11 +149,11 @@ module _ (a b : List Float) (l : Lengths a b) where
   last_one i e =
       let d = length-drop i a in
       ap₂ (mul binary32) (first a) (first b)
-      ∙ sym (sum-some (drop i a) (drop i b) (omega arith) ∙ alone 0 (drop i a) (drop i b) (same_behind i) (few_behind i) (omega arith) (omega arith))
+      ∙ sym (sum_some (drop i a) (drop i b) (omega arith) ∙ alone 0 (drop i a) (drop i b) (same_behind i) (few_behind i) (omega arith) (omega arith))
     where
       first : (l : List Float) → get_or l i nan ≡ get_or (drop i l) 0 nan
       first l = sym (get_or-drop i l 0 nan ∙ ap (λ (n : ℕ). get_or l n nan) (add-zero i))
 
   -- none
   pub none_left : (i : ℕ) → length a ≤ i → minus_zero ≡ sum_of (drop i a) (drop i b)
-  none_left i m = let d = length-drop i a in sym (sum-none (drop i a) (drop i b) (omega arith))
+  none_left i m = let d = length-drop i a in sym (sum_none (drop i a) (drop i b) (omega arith))

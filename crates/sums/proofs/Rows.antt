@@ -50,11 +50,11 @@ added_pairs f zero (s ∷ []) l = omega arith
 added_pairs f zero (s ∷ t ∷ r) l = absurd (omega arith)
 added_pairs f (suc h) r l = added_pairs f h (next_row r) (half h r l) ∙ added_next f r
 
-pub added-products : (f : Float → Float → ℕ) (a b : List Float) → added_all f (products a b) ≡ sum_over f a b
+pub added_products : (f : Float → Float → ℕ) (a b : List Float) → added_all f (products a b) ≡ sum_over f a b
 unfolding products sum_over added_all added
-added-products f [] b = refl
-added-products f (x ∷ a) [] = refl
-added-products f (x ∷ a) (y ∷ b) = let h = added-products f a b in omega arith
+added_products f [] b = refl
+added_products f (x ∷ a) [] = refl
+added_products f (x ∷ a) (y ∷ b) = let h = added_products f a b in omega arith
 
 -- ---- roundings
 -- every sum of a row has gone through k at most

@@ -8,14 +8,14 @@ use lib.Dec.{T, lit<}
 use lib.Ieee.{Float, binary32, of_bits, add, mul}
 use lib.Ieee.Scale.{finite}
 use Rattle.units.specs.Units.{P, N, Number}
-use Rattle.units.proofs.Near.{Near, near-scale}
+use Rattle.units.proofs.Near.{Near, near_scale}
 use Rattle.units.proofs.Signs.{size-sum}
 use Rattle.units.proofs.Ranges.{zero_units}
 use Rattle.units.proofs.Result.{rounds_exact}
-use Rattle.units.proofs.Sums.{add_rounds, add-near}
-use Rattle.units.proofs.Products.{mul-near}
+use Rattle.units.proofs.Sums.{add_rounds, add_near}
+use Rattle.units.proofs.Products.{mul_near}
 use Rattle.sums.specs.Sum.{above, below, size, apart}
-use Rattle.sums.proofs.Apart.{near_apart, apart-least, apart-scaled}
+use Rattle.sums.proofs.Apart.{near_apart, apart_least, apart-scaled}
 
 -- z, after at most k roundings, is at most k / (2 ^ 24 - k) of s off, and n halves of the least float, each grown as much
 abbrev pub Off : (k n : ℕ) (z : Float) (a b s : ℕ) → Type 0
@@ -34,7 +34,7 @@ pub off_product : (x y : Float) → Number x → Number y → T (finite (mul bin
 off_product x y h k t =
     let z = mul binary32 x y in
     once (apart (P z * 2 ^ 149 + below x y) (N z * 2 ^ 149 + above x y)) (size x y) (2 ^ 172)
-    (apart-scaled (P z * 2 ^ 149 + below x y) (N z * 2 ^ 149 + above x y) (2 ^ 24) (size x y + 2 ^ 172) (mul-near x y h k t))
+    (apart-scaled (P z * 2 ^ 149 + below x y) (N z * 2 ^ 149 + above x y) (2 ^ 24) (size x y + 2 ^ 172) (mul_near x y h k t))
   where
     once : (e s half : ℕ) → e * 2 ^ 24 ≤ s + half → e * (2 ^ 24 - 1) ≤ 1 * s + 1 * half
     once e s half g = omega arith
@@ -73,12 +73,12 @@ module _ (U w m k B B' px nx py ny pz nz a b a' b' : ℕ) (W : 0 < w) (l : m ≤
   added =
       let h = near_apart (px * U + b) (nx * U + a) in
       let g = near_apart (py * U + b') (ny * U + a') in
-      let f = near-scale U (near_apart (pz + (nx + ny)) (nz + (px + py))) in
+      let f = near_scale U (near_apart (pz + (nx + ny)) (nz + (px + py))) in
       let c : Near (pz * U + (b + b')) (nz * U + (a + a')) (E + r * U) = record { at_most = omega arith; at_least = omega arith } in
       let d : r * w * U ≤ apart (px + py) (nx + ny) * U = mul-le-mul_right U (apart-scaled (pz + (nx + ny)) (nz + (px + py)) w (apart (px + py) (nx + ny)) rounded) in
       let i = within in
       let j : r * U * w ≤ a + b + (a' + b') + E = omega arith in
-      grown w m k E (r * U) (a + b + (a' + b')) (apart (pz * U + (b + b')) (nz * U + (a + a'))) (B + B') W l (apart-least c) j (omega arith)
+      grown w m k E (r * U) (a + b + (a' + b')) (apart (pz * U + (b + b')) (nz * U + (a + a'))) (B + B') W l (apart_least c) j (omega arith)
 
 -- more roundings, a larger bound
 pub off_more : (j k n : ℕ) (z : Float) (a b s : ℕ) → j ≤ k → Off j n z a b s → Off k n z a b s
@@ -97,7 +97,7 @@ off_plus k n n' x y a b a' b' l h g t f f' =
     let z = add binary32 x y in
     shared (2 ^ 172) (apart (P z * 2 ^ 149 + (b + b')) (N z * 2 ^ 149 + (a + a')) * m)
     (added (2 ^ 149) (2 ^ 24) m k (n * 2 ^ 172) (n' * 2 ^ 172) (P x) (N x) (P y) (N y) (P z) (N z) a b a' b' (lit< tt) (omega arith)
-    (add-near x y (apart (P x + P y) (N x + N y)) h g t (near_apart (P x + P y) (N x + N y)))
+    (add_near x y (apart (P x + P y) (N x + N y)) h g t (near_apart (P x + P y) (N x + N y)))
     (rw left at f) (rw left at f'))
   where
     m : ℕ

@@ -31,11 +31,11 @@ intermediates (plus s t) f =
     (intermediates s g, intermediates t h, f)
 
 -- and the result is one of them
-pub last-finite : (t : Sum) → Intermediates t → T (finite (total t))
+pub last_finite : (t : Sum) → Intermediates t → T (finite (total t))
 unfolding total Intermediates
-last-finite nothing i = zero_is.number.is_finite
-last-finite (product x y) i = i
-last-finite (plus s t) i = i.2
+last_finite nothing i = zero_is.number.is_finite
+last_finite (product x y) i = i
+last_finite (plus s t) i = i.2
 
 -- the result of finite factors and intermediates is a finite f32
 pub total-number : (t : Sum) → Factors t → Intermediates t → Number (total t)
@@ -94,14 +94,14 @@ added_none f (plus s t) e =
     let q = added_none f t k in
     omega arith
 
-zero-none : (t : Sum) → Factors t → Intermediates t → roundings t ≡ 0 → (P (total t) ≡ 0) × (N (total t) ≡ 0)
+zero_none : (t : Sum) → Factors t → Intermediates t → roundings t ≡ 0 → (P (total t) ≡ 0) × (N (total t) ≡ 0)
 unfolding total Factors Intermediates roundings
-zero-none nothing f i e = zero_units
-zero-none (product x y) f i e = absurd (omega arith)
-zero-none (plus s t) f i e =
+zero_none nothing f i e = zero_units
+zero_none (product x y) f i e = absurd (omega arith)
+zero_none (plus s t) f i e =
     let (j, k) = none_left (roundings s) (roundings t) e in
-    let (p, n) = add-zero_left (total s) (total t) (total-number s f.0 i.0) (total-number t f.1 i.1) (zero-none s f.0 i.0 j) in
-    let (q, m) = zero-none t f.1 i.1 k in
+    let (p, n) = add-zero_left (total s) (total t) (total-number s f.0 i.0) (total-number t f.1 i.1) (zero_none s f.0 i.0 j) in
+    let (q, m) = zero_none t f.1 i.1 k in
     (p ∙ q, n ∙ m)
 
 -- the products' sizes are what they have above zero and what they have below
@@ -124,13 +124,13 @@ module _ (s t : Sum) (fs : Factors s) (ft : Factors t) (is : Intermediates s) (i
   known_left : (k : ℕ) → roundings s ≡ 0 → Known k t → Known k (plus s t)
   unfolding total added
   known_left k e =
-      known_same t (plus s t) k (add-zero_left (total s) (total t) (total-number s fs is) (total-number t ft it) (zero-none s fs is e))
+      known_same t (plus s t) k (add-zero_left (total s) (total t) (total-number s fs is) (total-number t ft it) (zero_none s fs is e))
       (λ g. let z = added_none g s e in omega arith)
 
   known_right : (k : ℕ) → roundings t ≡ 0 → Known k s → Known k (plus s t)
   unfolding total added
   known_right k e =
-      known_same s (plus s t) k (add-zero_right (total s) (total t) (total-number s fs is) (total-number t ft it) (zero-none t ft it e))
+      known_same s (plus s t) k (add-zero_right (total s) (total t) (total-number s fs is) (total-number t ft it) (zero_none t ft it e))
       (λ g. let z = added_none g t e in omega arith)
 
   known_both : (j k m : ℕ) → j ≤ m → k ≤ m → m < 2 ^ 24 → Known j s → Known k t → Known (m + 1) (plus s t)
@@ -141,11 +141,11 @@ module _ (s t : Sum) (fs : Factors s) (ft : Factors t) (is : Intermediates s) (i
       rw (sizes s, sizes t)
       (off_plus m (added one s) (added one t) (total s) (total t) (added above s) (added below s) (added above t) (added below t) l (total-number s fs is) (total-number t ft it) f h' g')
 
-  known-plus : (j k : ℕ) → roundings s ≡ j → roundings t ≡ k → joined j k ≤ 2 ^ 24 → Known j s → Known k t → Known (joined j k) (plus s t)
+  known_plus : (j k : ℕ) → roundings s ≡ j → roundings t ≡ k → joined j k ≤ 2 ^ 24 → Known j s → Known k t → Known (joined j k) (plus s t)
   unfolding joined
-  known-plus zero k a b l h g = known_left k a g
-  known-plus (suc j) zero a b l h g = known_right (suc j) b h
-  known-plus (suc j) (suc k) a b l h g =
+  known_plus zero k a b l h g = known_left k a g
+  known_plus (suc j) zero a b l h g = known_right (suc j) b h
+  known_plus (suc j) (suc k) a b l h g =
       let m = max (suc j) (suc k) in
       rw (← add-one m) (known_both (suc j) (suc k) m (omega arith) (omega arith) l h g)
 
@@ -161,7 +161,7 @@ known nothing f i l = off_nothing
 known (product x y) f i l = off_product x y f.0 f.1 i
 known (plus s t) f i l =
     let (j, k) = joined_parts (roundings s) (roundings t) in
-    known-plus s t f.0 f.1 i.0 i.1 i.2 (roundings s) (roundings t) refl refl l (known s f.0 i.0 (omega arith)) (known t f.1 i.1 (omega arith))
+    known_plus s t f.0 f.1 i.0 i.1 i.2 (roundings s) (roundings t) refl refl l (known s f.0 i.0 (omega arith)) (known t f.1 i.1 (omega arith))
 
 -- the law: a sum of n products in any order, none of which goes through more than k roundings, is within k u / (1 - k u) of the products' sizes and n 2 ^ -149
 pub tree_near : (t : Sum) (k : ℕ) → Factors t → Intermediates t → roundings t ≤ k → k ≤ 2 ^ 23 → NearSum k (added one t) (total t) (added above t) (added below t) (added size t)
@@ -175,8 +175,8 @@ tree_near t k f i l h =
         omega arith
 
 -- more roundings, a larger bound
-pub near-more : (j k n : ℕ) (r : Float) (p m s : ℕ) → j ≤ k → NearSum j n r p m s → NearSum k n r p m s
-near-more j k n r p m s l h = more (2 ^ 24) (apart (P r * 2 ^ 149 + m) (N r * 2 ^ 149 + p)) (n * 2 ^ 149) h
+pub near_more : (j k n : ℕ) (r : Float) (p m s : ℕ) → j ≤ k → NearSum j n r p m s → NearSum k n r p m s
+near_more j k n r p m s l h = more (2 ^ 24) (apart (P r * 2 ^ 149 + m) (N r * 2 ^ 149 + p)) (n * 2 ^ 149) h
   where
     more : (w e B : ℕ) → e * (w - j) ≤ j * s + B * (w - j) → e * (w - k) ≤ k * s + B * (w - k)
     more w e B g = elim (le-or-lt e B) [

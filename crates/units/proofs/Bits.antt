@@ -17,7 +17,7 @@ use lib.Ieee.Scale.{finite}
 use Rattle.units.specs.Units.{mag, negative, P, N, Number}
 use Rattle.units.proofs.Naturals.{le-or-lt, pow_back_lt}
 use Rattle.units.proofs.Size.{value-mag}
-use Rattle.units.proofs.Signs.{size-sum, sign-plus, one_side}
+use Rattle.units.proofs.Signs.{size-sum, sign_plus, one_side}
 use Rattle.units.proofs.Gaps.{multiple}
 
 -- x is the finite float with the sign s and u units
@@ -27,10 +27,10 @@ pub record Is (x : Float) (s : Bool) (u : ℕ) : Type 0 where
   pub units : mag x ≡ u
 
 -- a float above zero by its P and N
-pub is-above : (x : Float) (u : ℕ) → Number x → P x ≡ u → N x ≡ 0 → 0 < u → Is x false u
-is-above x u h p n l =
+pub is_above_lem : (x : Float) (u : ℕ) → Number x → P x ≡ u → N x ≡ 0 → 0 < u → Is x false u
+is_above_lem x u h p n l =
     let e : mag x ≡ u = sym (size-sum x) ∙ sum (P x) (N x) p n in
-    record { number = h; sign = sign-plus x n (lt_of_lt_of_le l (le_of_eq (sym e))); units = e }
+    record { number = h; sign = sign_plus x n (lt_of_lt_of_le l (le_of_eq (sym e))); units = e }
   where
     sum : (a b : ℕ) → a ≡ u → b ≡ 0 → a + b ≡ u
     sum a b i j = omega arith
@@ -39,10 +39,10 @@ is-above x u h p n l =
 abbrev pub sign_bit : Bool → ℕ
 sign_bit s = cond s 2147483648 0
 
-value-finite : (x : Float) (s : Bool) (a c : ℕ) → HasValue x s a c → T (finite x)
-value-finite nan s a c h = absurd h
-value-finite (inf t) s a c h = absurd h
-value-finite (fin t m e) s a c h = tt
+value_finite : (x : Float) (s : Bool) (a c : ℕ) → HasValue x s a c → T (finite x)
+value_finite nan s a c h = absurd h
+value_finite (inf t) s a c h = absurd h
+value_finite (fin t m e) s a c h = tt
 
 -- a pattern by its three fields
 by_fields : (s : Bool) (x t : ℕ) → x < 256 → t < 8388608 → of_bits binary32 (sign_bit s + (x * 8388608 + t)) ≡ of_fields binary32 s x t
@@ -75,7 +75,7 @@ is_odd s b q g e =
     let x = of_bits binary32 b in
     let h : HasValue x s (q * 2 ^ g) (2 ^ 149) = subst (λ (y : Float). HasValue y s (q * 2 ^ g) (2 ^ 149)) (sym e) (odd_sign 24 s q g 149) in
     let v = value-mag x s (q * 2 ^ g) h in
-    record { number = record { fits32 = of_bits-fits binary32 b; is_finite = value-finite x s (q * 2 ^ g) (2 ^ 149) h }; sign = v.1; units = v.0 }
+    record { number = record { fits32 = of_bits-fits binary32 b; is_finite = value_finite x s (q * 2 ^ g) (2 ^ 149) h }; sign = v.1; units = v.0 }
 
 -- a pattern put together from a sign, an exponent g and digits S: subnormal (g = 0), normal, or with a carry (S = 2 ^ 24)
 pub put : (s : Bool) (S g : ℕ) → (g ≡ 0) ⊎ (2 ^ 23 ≤ S) → S ≤ 2 ^ 24 → g * 8388608 + S < 255 * 8388608

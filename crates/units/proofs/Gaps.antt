@@ -9,12 +9,12 @@ use lib.Pow.{pow-add, pow_pos}
 use lib.Ieee.{Float}
 use Rattle.units.specs.Units.{mag, Number}
 use Rattle.units.proofs.Naturals.{le-or-lt, pow_back_lt, pow_split}
-use Rattle.units.proofs.Size.{mag-digits}
+use Rattle.units.proofs.Size.{mag_digits}
 
 -- where the digits of z begin: from 2 ^ 23 * 2 ^ g on, z is a multiple of 2 ^ g
 pub multiple : (z : Float) → Number z → (g : ℕ) → 2 ^ 23 * 2 ^ g ≤ mag z → (k : ℕ) × (mag z ≡ k * 2 ^ g)
 multiple z h g l =
-    let (q, j, small, is) = mag-digits z h in
+    let (q, j, small, is) = mag_digits z h in
     let top : q * 2 ^ j < 2 ^ (24 + j) = subst (λ (a : ℕ). q * 2 ^ j < a) (sym (pow-add 2 24 j)) (mul-lt-mul_of_pos_right small (pow_pos j)) in
     let bottom : 2 ^ (23 + g) ≤ q * 2 ^ j = le_trans (le_of_eq (pow-add 2 23 g)) (le_trans l (le_of_eq is)) in
     let g<j : 23 + g < 24 + j = pow_back_lt (23 + g) (24 + j) (lt_of_le_of_lt bottom top) in

@@ -14,8 +14,8 @@ pub near_sym : {a b d : ℕ} → Near a b d → Near b a d
 near_sym h = record { at_most = h.at_least; at_least = h.at_most }
 
 -- a factor multiplied in
-pub near-scale : {a b d : ℕ} (k : ℕ) → Near a b d → Near (a * k) (b * k) (d * k)
-near-scale {a} {b} {d} k h =
+pub near_scale : {a b d : ℕ} (k : ℕ) → Near a b d → Near (a * k) (b * k) (d * k)
+near_scale {a} {b} {d} k h =
     let l : a * k ≤ (b + d) * k = mul-le-mul_right k h.at_most in
     let m : b * k ≤ (a + d) * k = mul-le-mul_right k h.at_least in
     omega arith

@@ -16,7 +16,7 @@ use lib.Ieee.Scale.{finite}
 use Rattle.units.specs.Units.{mag, negative, P, N, Number}
 use Rattle.units.proofs.Naturals.{le-or-lt}
 use Rattle.units.proofs.Near.{Near, near_sym}
-use Rattle.units.proofs.Size.{mag-digits}
+use Rattle.units.proofs.Size.{mag_digits}
 use Rattle.units.proofs.Result.{Rounds, rounds_plus, rounds_minus}
 use Rattle.units.proofs.Round.{rnd, rnd_half, rnd_zero, reaches, step}
 
@@ -151,7 +151,7 @@ flip true m a b c d g = near_sym g
 -- a finite result is no further from the exact number than any finite float w is
 pub rounds_nearest : (z w : Float) (a b c d : ℕ) → 0 < c → Rounds z a b c → T (finite z) → Number w → Near (P w * c + b) (N w * c + a) d → Near (P z * c + b) (N z * c + a) d
 rounds_nearest z w a b c d C r t n g =
-    let f = mag-digits w n in
+    let f = mag_digits w n in
     rw (rounds_plus z a b c r t, rounds_minus z a b c r t)
     (elim (le-or-lt b a) [
       | inl l ↦ one_sided (negative w) (mag w) f.0 f.1 a b c d C (le_of_lt f.2) f.3 l g

@@ -15,24 +15,24 @@ opposite (inf s) h = absurd h.is_finite
 opposite (fin s m e) h = record { fits32 = neg-fits binary32 (fin s m e) h.fits32; is_finite = tt }
 
 -- its sides
-pub opposite-plus : (z : Float) → Number z → P (neg z) ≡ N z
+pub opposite_plus : (z : Float) → Number z → P (neg z) ≡ N z
 unfolding neg mag negative
-opposite-plus nan h = absurd h.is_finite
-opposite-plus (inf s) h = absurd h.is_finite
-opposite-plus (fin true m e) h = refl
-opposite-plus (fin false m e) h = refl
+opposite_plus nan h = absurd h.is_finite
+opposite_plus (inf s) h = absurd h.is_finite
+opposite_plus (fin true m e) h = refl
+opposite_plus (fin false m e) h = refl
 
-pub opposite-minus : (z : Float) → Number z → N (neg z) ≡ P z
+pub opposite_minus : (z : Float) → Number z → N (neg z) ≡ P z
 unfolding neg mag negative
-opposite-minus nan h = absurd h.is_finite
-opposite-minus (inf s) h = absurd h.is_finite
-opposite-minus (fin true m e) h = refl
-opposite-minus (fin false m e) h = refl
+opposite_minus nan h = absurd h.is_finite
+opposite_minus (inf s) h = absurd h.is_finite
+opposite_minus (fin true m e) h = refl
+opposite_minus (fin false m e) h = refl
 
 -- of a float below zero it is the one above zero, of as many units
-pub opposite-is : (z : Float) {u : ℕ} → Is z true u → Is (neg z) false u
+pub opposite_is : (z : Float) {u : ℕ} → Is z true u → Is (neg z) false u
 unfolding neg mag negative
-opposite-is nan h = absurd h.number.is_finite
-opposite-is (inf s) h = absurd h.number.is_finite
-opposite-is (fin true m e) h = record { number = opposite (fin true m e) h.number; sign = refl; units = h.units }
-opposite-is (fin false m e) h = absurd (true≢false (sym h.sign))
+opposite_is nan h = absurd h.number.is_finite
+opposite_is (inf s) h = absurd h.number.is_finite
+opposite_is (fin true m e) h = record { number = opposite (fin true m e) h.number; sign = refl; units = h.units }
+opposite_is (fin false m e) h = absurd (true≢false (sym h.sign))

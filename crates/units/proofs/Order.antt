@@ -43,14 +43,14 @@ module _ (u v : ℕ) (pu : 0 < u) (pv : 0 < v) where
   zeros : 0 * u ≡ 0 * v
   zeros = zero-mul u ∙ sym (zero-mul v)
 
-  same-below : (s t : Bool) (a b x y : ℕ) → a * u ≡ x * v → b * u ≡ y * v → below s a t b ≡ below s x t y
-  same-below false false a b x y p q = same_ltb a b x y p q
-  same-below false true a b x y p q = refl
-  same-below true false a b x y p q = same_ltb 0 (a + b) 0 (x + y) zeros (omega arith)
-  same-below true true a b x y p q = same_ltb b a y x q p
+  same_below : (s t : Bool) (a b x y : ℕ) → a * u ≡ x * v → b * u ≡ y * v → below s a t b ≡ below s x t y
+  same_below false false a b x y p q = same_ltb a b x y p q
+  same_below false true a b x y p q = refl
+  same_below true false a b x y p q = same_ltb 0 (a + b) 0 (x + y) zeros (omega arith)
+  same_below true true a b x y p q = same_ltb b a y x q p
 
-  same-level : (s t : Bool) (a b x y : ℕ) → a * u ≡ x * v → b * u ≡ y * v → level s a t b ≡ level s x t y
-  same-level s t a b x y p q = rw (same_eqb a b x y p q, same_eqb a 0 x 0 p zeros)
+  same_level : (s t : Bool) (a b x y : ℕ) → a * u ≡ x * v → b * u ≡ y * v → level s a t b ≡ level s x t y
+  same_level s t a b x y p q = rw (same_eqb a b x y p q, same_eqb a 0 x 0 p zeros)
 
 -- ---- a float's size and the sides of a comparison are in one proportion
 side : (m u d c X : ℕ) → X * d ≡ m * u * 2 ^ 149 → m * u * c * 2 ^ 149 ≡ X * (d * c)
@@ -66,13 +66,13 @@ on_units test same s m e t n d h k =
     (side m (up e) (down e) (down d) (mag (fin s m e)) (mag_exact s m e h.fits32))
     (side n (up d) (down d) (down e) (mag (fin t n d)) (mag_exact t n d k.fits32) ∙ ap (λ (z : ℕ). mag (fin t n d) * z) (mul_comm (down d) (down e)))
 
-lt-is : (x y : Float) → Number x → Number y → lt x y ≡ below (negative x) (mag x) (negative y) (mag y)
+lt_is : (x y : Float) → Number x → Number y → lt x y ≡ below (negative x) (mag x) (negative y) (mag y)
 unfolding lt negative
-lt-is nan y h k = absurd h.is_finite
-lt-is (inf s) y h k = absurd h.is_finite
-lt-is (fin s m e) nan h k = absurd k.is_finite
-lt-is (fin s m e) (inf t) h k = absurd k.is_finite
-lt-is (fin s m e) (fin t n d) h k = on_units below same-below s m e t n d h k
+lt_is nan y h k = absurd h.is_finite
+lt_is (inf s) y h k = absurd h.is_finite
+lt_is (fin s m e) nan h k = absurd k.is_finite
+lt_is (fin s m e) (inf t) h k = absurd k.is_finite
+lt_is (fin s m e) (fin t n d) h k = on_units below same_below s m e t n d h k
 
 eq_is : (x y : Float) → Number x → Number y → eq x y ≡ level (negative x) (mag x) (negative y) (mag y)
 unfolding eq negative
@@ -80,7 +80,7 @@ eq_is nan y h k = absurd h.is_finite
 eq_is (inf s) y h k = absurd h.is_finite
 eq_is (fin s m e) nan h k = absurd k.is_finite
 eq_is (fin s m e) (inf t) h k = absurd k.is_finite
-eq_is (fin s m e) (fin t n d) h k = on_units level same-level s m e t n d h k
+eq_is (fin s m e) (fin t n d) h k = on_units level same_level s m e t n d h k
 
 -- ---- what the tests say of P and N
 below_true : (s t : Bool) (a b : ℕ) → below s a t b ≡ true → cond s 0 a + cond t b 0 < cond t 0 b + cond s a 0
@@ -122,10 +122,10 @@ level_false s t a b e = go s t (eqb a b) (eqb a 0) (eqb-false a b) (eqb-false a 
 -- ---- the machine's tests on finite floats, read and made
 module _ (x y : Float) (h : Number x) (k : Number y) where
   pub lt_true : lt x y ≡ true → Lt x y
-  lt_true e = below_true (negative x) (negative y) (mag x) (mag y) (sym (lt-is x y h k) ∙ e)
+  lt_true e = below_true (negative x) (negative y) (mag x) (mag y) (sym (lt_is x y h k) ∙ e)
 
   pub lt_false : lt x y ≡ false → Le y x
-  lt_false e = below_false (negative x) (negative y) (mag x) (mag y) (sym (lt-is x y h k) ∙ e)
+  lt_false e = below_false (negative x) (negative y) (mag x) (mag y) (sym (lt_is x y h k) ∙ e)
 
   pub eq_true : eq x y ≡ true → P x + N y ≡ P y + N x
   eq_true e = level_true (negative x) (negative y) (mag x) (mag y) (sym (eq_is x y h k) ∙ e)

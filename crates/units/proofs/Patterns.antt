@@ -79,7 +79,7 @@ pub record Packed (x : Float) : Type 0 where
   pub k : ℕ
   pub shape : Shape m k
   pub units : mag x ≡ m * 2 ^ k
-  pub size-bits : to_bits binary32 x % 2147483648 ≡ packed m k
+  pub size_bits_lem : to_bits binary32 x % 2147483648 ≡ packed m k
   pub top_bit : to_bits binary32 x / 2147483648 ≡ cond (negative x) 1 0
 
 pub packed_of : (x : Float) → Number x → Packed x
@@ -89,11 +89,11 @@ packed_of x h = elim (le-or-lt (2 ^ 23) (mag x)) [
       let few : t.m < 16777216 = t.digits in
       let top : 23 + t.k < 277 = pow_back_lt (23 + t.k) 277 (lt_of_le_of_lt (le_trans (le_of_eq (pow-add 2 23 t.k)) (mul-le-mul_right (2 ^ t.k) t.least)) (lt_of_le_of_lt (le_of_eq (sym t.units)) (mag-lt x h))) in
       let (size, sign) = parts (packed t.m t.k) t.bits (omega arith) in
-      record { m = t.m; k = t.k; shape = record { few = t.digits; first = inr t.least }; units = t.units; size-bits = size; top_bit = sign }
+      record { m = t.m; k = t.k; shape = record { few = t.digits; first = inr t.least }; units = t.units; size_bits_lem = size; top_bit = sign }
   | inr l ↦
       let few : mag x < 8388608 = l in
       let (size, sign) = parts (mag x) (pattern_subnormal x h l) (omega arith) in
-      record { m = mag x; k = 0; shape = record { few = omega arith; first = inl refl }; units = sym (mul-one (mag x)); size-bits = size ∙ sym (zero-add (mag x)); top_bit = sign }
+      record { m = mag x; k = 0; shape = record { few = omega arith; first = inl refl }; units = sym (mul-one (mag x)); size_bits_lem = size ∙ sym (zero-add (mag x)); top_bit = sign }
 ]
   where
     parts : (b : ℕ) → to_bits binary32 x ≡ sign_bit (negative x) + b → b < 2147483648 → (to_bits binary32 x % 2147483648 ≡ b) × (to_bits binary32 x / 2147483648 ≡ cond (negative x) 1 0)
@@ -104,19 +104,19 @@ packed_of x h = elim (le-or-lt (2 ^ 23) (mag x)) [
         go false t f = (omega arith, omega arith)
 
 -- below the infinity's pattern a float is finite
-pub finite-below : (x : Float) → T (fits binary32 x) → to_bits binary32 x % 2147483648 < 2139095040 → Number x
+pub finite_below : (x : Float) → T (fits binary32 x) → to_bits binary32 x % 2147483648 < 2139095040 → Number x
 unfolding to_bits
-finite-below nan f l = absurd (omega arith)
-finite-below (inf true) f l = absurd (omega arith)
-finite-below (inf false) f l = absurd (omega arith)
-finite-below (fin s m e) f l = record { fits32 = f; is_finite = tt }
+finite_below nan f l = absurd (omega arith)
+finite_below (inf true) f l = absurd (omega arith)
+finite_below (inf false) f l = absurd (omega arith)
+finite_below (fin s m e) f l = record { fits32 = f; is_finite = tt }
 
 -- and every finite float is there
 pub below_infinity : (x : Float) → Number x → to_bits binary32 x % 2147483648 < 2139095040
 below_infinity x h =
     let t = packed_of x h in
     let few : t.m < 16777216 = t.shape.few in
-    rw t.size-bits (elim (le-or-lt t.k 253) [ inl l ↦ omega arith | inr l ↦ absurd (not-le_of_lt (mag-lt x h) (le_trans (large t.m t.k t.shape l) (le_of_eq (sym t.units)))) ])
+    rw t.size_bits_lem (elim (le-or-lt t.k 253) [ inl l ↦ omega arith | inr l ↦ absurd (not-le_of_lt (mag-lt x h) (le_trans (large t.m t.k t.shape l) (le_of_eq (sym t.units)))) ])
   where
     large : (m k : ℕ) → Shape m k → 253 < k → 2 ^ 277 ≤ m * 2 ^ k
     large m k s l = elim s.first [ inl z ↦ absurd (omega arith) | inr f ↦ le_trans (le_of_eq (pow-add 2 23 254)) (le_trans (mul-le-mul_right (2 ^ 254) f) (mul-le-mul_left m (pow_mono l))) ]
@@ -126,27 +126,27 @@ module _ (S g : ℕ) (s : Shape S g) (x : Float) where
   -- it passes: x is finite, and its size at most that
   pub within : packed S g < 2139095040 → T (fits binary32 x) → to_bits binary32 x % 2147483648 ≤ packed S g → Number x × (mag x ≤ S * 2 ^ g)
   within top f l =
-      let n = finite-below x f (lt_of_le_of_lt l top) in
+      let n = finite_below x f (lt_of_le_of_lt l top) in
       let t = packed_of x n in
-      (n, rw t.units (packed_le t.m t.k S g t.shape s (rw t.size-bits at l)))
+      (n, rw t.units (packed_le t.m t.k S g t.shape s (rw t.size_bits_lem at l)))
 
   -- it fails: a finite x is greater in size
   pub beyond : Number x → packed S g < to_bits binary32 x % 2147483648 → S * 2 ^ g < mag x
   beyond n l =
       let t = packed_of x n in
-      rw t.units (packed_lt S g t.m t.k s t.shape (rw t.size-bits at l))
+      rw t.units (packed_lt S g t.m t.k s t.shape (rw t.size_bits_lem at l))
 
   -- the same where the test is strict
-  pub within-less : packed S g ≤ 2139095040 → T (fits binary32 x) → to_bits binary32 x % 2147483648 < packed S g → Number x × (mag x < S * 2 ^ g)
-  within-less top f l =
-      let n = finite-below x f (lt_of_lt_of_le l top) in
+  pub within_less : packed S g ≤ 2139095040 → T (fits binary32 x) → to_bits binary32 x % 2147483648 < packed S g → Number x × (mag x < S * 2 ^ g)
+  within_less top f l =
+      let n = finite_below x f (lt_of_lt_of_le l top) in
       let t = packed_of x n in
-      (n, rw t.units (packed_lt t.m t.k S g t.shape s (rw t.size-bits at l)))
+      (n, rw t.units (packed_lt t.m t.k S g t.shape s (rw t.size_bits_lem at l)))
 
   pub beyond_or-at : Number x → packed S g ≤ to_bits binary32 x % 2147483648 → S * 2 ^ g ≤ mag x
   beyond_or-at n l =
       let t = packed_of x n in
-      rw t.units (packed_le S g t.m t.k s t.shape (rw t.size-bits at l))
+      rw t.units (packed_le S g t.m t.k s t.shape (rw t.size_bits_lem at l))
 
 -- ---- a pattern that is no NaN's is that of its float
 pub pattern_back : (b : ℕ) → b < 4294967296 → T (not (nan_bits binary32 b)) → to_bits binary32 (of_bits binary32 b) ≡ b

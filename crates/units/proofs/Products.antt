@@ -55,9 +55,9 @@ mul_operands (fin s m e) (fin u n d) t = (tt, tt)
 
 -- ---- the standard model
 -- a finite product is at most one part in 2 ^ 24 of the exact one off, and half a unit, which is 2 ^ 148 of the exact product's units
-pub mul-near : (x y : Float) → Number x → Number y → T (finite (mul binary32 x y))
+pub mul_near : (x y : Float) → Number x → Number y → T (finite (mul binary32 x y))
     → Near ((P (mul binary32 x y) * 2 ^ 149 + (P x * N y + N x * P y)) * 2 ^ 24) ((N (mul binary32 x y) * 2 ^ 149 + (P x * P y + N x * N y)) * 2 ^ 24) (mag x * mag y + 2 ^ 172)
-mul-near x y h k t =
+mul_near x y h k t =
     rounds_near (mul binary32 x y) (P x * P y + N x * N y) (P x * N y + N x * P y) (2 ^ 149) (mag x * mag y) (pow_pos 149) (mul_rounds x y h k) t (whole (negative x) (negative y) (mag x) (mag y))
   where
     whole : (s u : Bool) (a b : ℕ) → Near (cond s 0 a * cond u 0 b + cond s a 0 * cond u b 0) (cond s 0 a * cond u b 0 + cond s a 0 * cond u 0 b) (a * b)

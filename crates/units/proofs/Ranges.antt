@@ -17,16 +17,16 @@ use Rattle.units.proofs.Bits.{Is, put, put_positive}
 use Rattle.units.proofs.Order.{le_false}
 
 -- ---- a float between two finite ones is finite
-pub finite-between : (lo x hi : Float) → T (finite lo) → T (finite hi) → le lo x ≡ true → le x hi ≡ true → T (finite x)
+pub finite_between : (lo x hi : Float) → T (finite lo) → T (finite hi) → le lo x ≡ true → le x hi ≡ true → T (finite x)
 unfolding le lt eq
-finite-between nan x hi f g a b = absurd f
-finite-between (inf s) x hi f g a b = absurd f
-finite-between (fin s m e) nan hi f g a b = true≢false (sym a)
-finite-between (fin s m e) (inf true) hi f g a b = true≢false (sym a)
-finite-between (fin s m e) (inf false) nan f g a b = absurd g
-finite-between (fin s m e) (inf false) (inf t) f g a b = absurd g
-finite-between (fin s m e) (inf false) (fin t n d) f g a b = true≢false (sym b)
-finite-between (fin s m e) (fin t n d) hi f g a b = tt
+finite_between nan x hi f g a b = absurd f
+finite_between (inf s) x hi f g a b = absurd f
+finite_between (fin s m e) nan hi f g a b = true≢false (sym a)
+finite_between (fin s m e) (inf true) hi f g a b = true≢false (sym a)
+finite_between (fin s m e) (inf false) nan f g a b = absurd g
+finite_between (fin s m e) (inf false) (inf t) f g a b = absurd g
+finite_between (fin s m e) (inf false) (fin t n d) f g a b = true≢false (sym b)
+finite_between (fin s m e) (fin t n d) hi f g a b = tt
 
 -- ---- zero, the greatest float and its opposite
 -- the pattern 0 is +0
@@ -36,8 +36,8 @@ zero_is = put_positive 0 0 (inl refl) (omega arith) (omega arith)
 greatest_is : Is (of_bits binary32 2139095039) false (16777215 * 2 ^ 253)
 greatest_is = put_positive 16777215 253 (inr (omega arith)) (omega arith) (omega arith)
 
-least-is : Is (of_bits binary32 4286578687) true (16777215 * 2 ^ 253)
-least-is = put true 16777215 253 (inr (omega arith)) (omega arith) (omega arith)
+least_is : Is (of_bits binary32 4286578687) true (16777215 * 2 ^ 253)
+least_is = put true 16777215 253 (inr (omega arith)) (omega arith) (omega arith)
 
 -- no float is greater in size
 upto_greatest_size : (x : Float) → Number x → mag x ≤ 16777215 * 2 ^ 253
@@ -53,10 +53,10 @@ upto_greatest x h =
     at_most p n m p' n' g a b c d = omega arith
 
 -- nor below its opposite
-from-least : (x : Float) → Number x → Le (of_bits binary32 4286578687) x
-from-least x h =
+from_least : (x : Float) → Number x → Le (of_bits binary32 4286578687) x
+from_least x h =
     let l = of_bits binary32 4286578687 in
-    let z = least-is in
+    let z = least_is in
     at_least (P x) (N x) (mag x) (P l) (N l) (16777215 * 2 ^ 253) (size-sum x) (size-sum l ∙ z.units) (ap (λ (s : Bool). cond s 0 (mag l)) z.sign) (upto_greatest_size x h)
   where
     at_least : (p n m p' n' g : ℕ) → p + n ≡ m → p' + n' ≡ g → p' ≡ 0 → m ≤ g → p' + n ≤ p + n'
@@ -72,9 +72,9 @@ module _ (x : Float) where
   not_finite h a = not-le_of_lt (le_false x (of_bits binary32 2139095039) h greatest_is.number a) (upto_greatest x h)
 
   -- ---- the test of a float of either sign: between the greatest float and its opposite
-  pub finite-within : le (of_bits binary32 4286578687) x ≡ true → le x (of_bits binary32 2139095039) ≡ true → T (finite x)
-  finite-within a b = finite-between (of_bits binary32 4286578687) x (of_bits binary32 2139095039) least-is.number.is_finite greatest_is.number.is_finite a b
+  pub finite_within : le (of_bits binary32 4286578687) x ≡ true → le x (of_bits binary32 2139095039) ≡ true → T (finite x)
+  finite_within a b = finite_between (of_bits binary32 4286578687) x (of_bits binary32 2139095039) least_is.number.is_finite greatest_is.number.is_finite a b
 
   -- a finite float is not below that
-  pub not-finite-below : Number x → le (of_bits binary32 4286578687) x ≡ false → ⊥
-  not-finite-below h a = not-le_of_lt (le_false (of_bits binary32 4286578687) x least-is.number h a) (from-least x h)
+  pub not_finite_below : Number x → le (of_bits binary32 4286578687) x ≡ false → ⊥
+  not_finite_below h a = not-le_of_lt (le_false (of_bits binary32 4286578687) x least_is.number h a) (from_least x h)

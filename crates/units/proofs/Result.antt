@@ -13,7 +13,7 @@ use lib.Ieee.Fits.{round-fits}
 use Rattle.units.specs.Units.{mag, negative, P, N, Number}
 use Rattle.units.proofs.Naturals.{le-or-lt, sub-mul}
 use Rattle.units.proofs.Near.{Near, near_sym}
-use Rattle.units.proofs.Size.{mag-digits, mag-lt, finite_of_mag, finite-real}
+use Rattle.units.proofs.Size.{mag_digits, mag-lt, finite_of_mag, finite_real}
 use Rattle.units.proofs.Round.{rnd, rnd_stays, rnd_upto, rnd_near, rnd_whole, rnd_same, rnd_zero}
 use Rattle.units.proofs.Rounded.{cap, cap_under, round_P, round_N, round_real}
 
@@ -49,10 +49,10 @@ rounds_of true r d a b c v D C e w = record {
 -- a finite float is its own number, rounded
 pub rounds_self : (w : Float) → Number w → Rounds w (P w) (N w) 1
 rounds_self w n =
-    record { fits32 = n.fits32; no_nan = finite-real w n.is_finite; plus = (own (negative w)).0; minus = (own (negative w)).1 }
+    record { fits32 = n.fits32; no_nan = finite_real w n.is_finite; plus = (own (negative w)).0; minus = (own (negative w)).1 }
   where
     stays : mag w ≡ cap (rnd (mag w) 1)
-    stays = let d = mag-digits w n in sym (ap cap (rnd_stays (mag w) d.0 d.1 (le_of_lt d.2) d.3) ∙ min-eq_left (le_of_lt (mag-lt w n)))
+    stays = let d = mag_digits w n in sym (ap cap (rnd_stays (mag w) d.0 d.1 (le_of_lt d.2) d.3) ∙ min-eq_left (le_of_lt (mag-lt w n)))
 
     zeros : 0 ≡ cap (rnd 0 1)
     zeros = sym (ap cap (rnd_zero 1 (lit< tt)))

@@ -47,8 +47,8 @@ closest_half a b h =
 size_mono : (a b : ℕ) → a ≤ b → size a ≤ size b
 size_mono a b h = size-le a (size b) (lt_of_le_of_lt h (size-lt b))
 
-pub kept-le : (n c : ℕ) → kept 24 n c ≤ 2 ^ 24
-kept-le n c =
+pub kept_le : (n c : ℕ) → kept 24 n c ≤ 2 ^ 24
+kept_le n c =
     let k = drop 24 n c in
     let u = c * 2 ^ k in
     let l : n / u < 2 ^ 24 = rw div-div-eq-div-mul at (kept-lt 24 (n / c)) in
@@ -93,7 +93,7 @@ rnd_mono n c m d C D h =
     elim (eq-or-lt_of_le (fewer (size (n / c)) (size (m / d)) (size_mono (n / c) (m / d) (div_mono n c m d C D h)))) [
       | inl e ↦ rw e (same_drop n c m d k C D h)
       | inr l ↦
-          le_trans (mul-le-mul_right (2 ^ j) (kept-le n c))
+          le_trans (mul-le-mul_right (2 ^ j) (kept_le n c))
           (le_trans (step j k l) (mul-le-mul_right (2 ^ k) (kept_ge m d (lt_of_le_of_lt zero-le l))))
     ]
 

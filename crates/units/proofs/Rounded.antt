@@ -13,7 +13,7 @@ use lib.Ieee.Exact.{HasValue, odd_sign}
 use lib.Ieee.Order.{drop, kept}
 use lib.Ieee.Scale.{finite}
 use Rattle.units.specs.Units.{mag, negative, P, N, Number}
-use Rattle.units.proofs.Size.{value-mag, finite-real}
+use Rattle.units.proofs.Size.{value-mag, finite_real}
 use Rattle.units.proofs.Round.{rnd, rnd_exact}
 
 -- a size held to that of an infinity
@@ -38,17 +38,17 @@ round_mag s a c = let n = a * 2 ^ 149 in ap mag (round_is binary32 s a c) ∙ (u
 pub round_sign : (s : Bool) (a c : ℕ) → negative (round binary32 s a c) ≡ s
 round_sign s a c = let n = a * 2 ^ 149 in ap negative (round_is binary32 s a c) ∙ (units_is s (kept 24 n c) (drop 24 n c)).1
 
-value-finite : (x : Float) (s : Bool) (a c : ℕ) → HasValue x s a c → T (finite x)
-value-finite nan s a c h = h
-value-finite (inf t) s a c h = h
-value-finite (fin t m e) s a c h = tt
+value_finite : (x : Float) (s : Bool) (a c : ℕ) → HasValue x s a c → T (finite x)
+value_finite nan s a c h = h
+value_finite (inf t) s a c h = h
+value_finite (fin t m e) s a c h = tt
 
 units_finite : (s : Bool) (q k : ℕ) → T (finite (units binary32 s q k)) ↔ (q * 2 ^ k < 2 ^ 277)
 unfolding units
 units_finite s q k = go (ltb (q * 2 ^ k) (2 ^ 277)) (ltb→lt (q * 2 ^ k) (2 ^ 277)) (lt→ltb (q * 2 ^ k) (2 ^ 277))
   where
     go : (b : Bool) → (T b → q * 2 ^ k < 2 ^ 277) → (q * 2 ^ k < 2 ^ 277 → T b) → T (finite (cond b (odd 25 s q k 149) (inf s))) ↔ (q * 2 ^ k < 2 ^ 277)
-    go true h g = (λ t. h tt, λ l. value-finite (odd 25 s q k 149) s (q * 2 ^ k) (2 ^ 149) (odd_sign 25 s q k 149))
+    go true h g = (λ t. h tt, λ l. value_finite (odd 25 s q k 149) s (q * 2 ^ k) (2 ^ 149) (odd_sign 25 s q k 149))
     go false h g = (λ t. absurd t, g)
 
 -- it is finite exactly where it is rounded to less than 2 ^ 277 units
@@ -65,7 +65,7 @@ unfolding units
 units_real s q k = go (ltb (q * 2 ^ k) (2 ^ 277))
   where
     go : (b : Bool) → T (not (is_nan (cond b (odd 25 s q k 149) (inf s))))
-    go true = finite-real (odd 25 s q k 149) (value-finite (odd 25 s q k 149) s (q * 2 ^ k) (2 ^ 149) (odd_sign 25 s q k 149))
+    go true = finite_real (odd 25 s q k 149) (value_finite (odd 25 s q k 149) s (q * 2 ^ k) (2 ^ 149) (odd_sign 25 s q k 149))
     go false = unfold is_nan in tt
 
 -- it is never a NaN

@@ -28,8 +28,8 @@ pub minus_of_lem : (x : Float) → negative x ≡ false → N x ≡ 0
 minus_of_lem x e = ap (λ (s : Bool). cond s (mag x) 0) e
 
 -- a float that is not zero and has nothing below zero carries the sign +
-pub sign-plus : (x : Float) → N x ≡ 0 → 0 < mag x → negative x ≡ false
-sign-plus x e h = go (negative x) (mag x) e h
+pub sign_plus : (x : Float) → N x ≡ 0 → 0 < mag x → negative x ≡ false
+sign_plus x e h = go (negative x) (mag x) e h
   where
     go : (s : Bool) (m : ℕ) → cond s m 0 ≡ 0 → 0 < m → s ≡ false
     go true m e h = absurd (let k : 0 < 0 = subst (λ (n : ℕ). 0 < n) e h in omega arith)

@@ -51,18 +51,18 @@ whole : (m : ℕ) (e : ℤ) → down e ≤ 2 ^ 149 → m * up e * 2 ^ 149 ≡ m 
 whole m e h = mul_assoc m (up e) (2 ^ 149) ∙ ap (λ (x : ℕ). m * x) (place_is e h) ∙ sym (mul_assoc m (2 ^ place e) (down e))
 
 -- a size as digits and a power of two: a finite f32 that fits is m * 2 ^ place e units
-pub mag-place : (s : Bool) (m : ℕ) (e : ℤ) → T (fits binary32 (fin s m e)) → mag (fin s m e) ≡ m * 2 ^ place e
+pub mag_place : (s : Bool) (m : ℕ) (e : ℤ) → T (fits binary32 (fin s m e)) → mag (fin s m e) ≡ m * 2 ^ place e
 unfolding mag
-mag-place s zero e f = none
+mag_place s zero e f = none
   where
     none : 0 * up e * 2 ^ 149 / down e ≡ 0 * 2 ^ place e
     none = simp (zero-mul, zero-div)
-mag-place s (suc m) e f = div-eq_of_eq-mul_left (down_pos e) (whole (suc m) e (fine s m e f))
+mag_place s (suc m) e f = div-eq_of_eq-mul_left (down_pos e) (whole (suc m) e (fine s m e f))
 
 -- the division in `mag` has no remainder
 pub mag_exact : (s : Bool) (m : ℕ) (e : ℤ) → T (fits binary32 (fin s m e)) → mag (fin s m e) * down e ≡ m * up e * 2 ^ 149
-mag_exact s zero e f = rw mag-place (simp zero-mul)
-mag_exact s (suc m) e f = rw mag-place (sym (whole (suc m) e (fine s m e f)))
+mag_exact s zero e f = rw mag_place (simp zero-mul)
+mag_exact s (suc m) e f = rw mag_place (sym (whole (suc m) e (fine s m e f)))
 
 -- a float that is a units of 2 ^ -149 with the sign s has the size a and the sign s
 pub value-mag : (x : Float) (s : Bool) (a : ℕ) → HasValue x s a (2 ^ 149) → (mag x ≡ a) × (negative x ≡ s)
@@ -79,15 +79,15 @@ under s m e h = (div-lt_iff_lt-mul (down_pos e)).1 (rw (← mul_right_comm (2 ^ 
 pub mag-lt : (x : Float) → Number x → mag x < 2 ^ 277
 mag-lt nan n = absurd n.is_finite
 mag-lt (inf s) n = absurd n.is_finite
-mag-lt (fin s zero e) n = rw (mag-place s zero e n.fits32, zero-mul) (pow_pos 277)
+mag-lt (fin s zero e) n = rw (mag_place s zero e n.fits32, zero-mul) (pow_pos 277)
 mag-lt (fin s (suc m) e) n = under s (suc m) e (bounded s m e n.fits32)
 
 -- a finite f32 has at most 24 binary digits, wherever they stand
-pub mag-digits : (x : Float) → Number x → (q : ℕ) × (j : ℕ) × (q < 2 ^ 24) × (mag x ≡ q * 2 ^ j)
-mag-digits nan n = absurd n.is_finite
-mag-digits (inf s) n = absurd n.is_finite
-mag-digits (fin s zero e) n = (0, place e, pow_pos 24, mag-place s zero e n.fits32)
-mag-digits (fin s (suc m) e) n = (suc m, place e, digits s m e n.fits32, mag-place s (suc m) e n.fits32)
+pub mag_digits : (x : Float) → Number x → (q : ℕ) × (j : ℕ) × (q < 2 ^ 24) × (mag x ≡ q * 2 ^ j)
+mag_digits nan n = absurd n.is_finite
+mag_digits (inf s) n = absurd n.is_finite
+mag_digits (fin s zero e) n = (0, place e, pow_pos 24, mag_place s zero e n.fits32)
+mag_digits (fin s (suc m) e) n = (suc m, place e, digits s m e n.fits32, mag_place s (suc m) e n.fits32)
 
 -- of the floats that are no NaN, the ones below 2 ^ 277 units are the finite ones
 pub finite_of_mag : (x : Float) → T (fits binary32 x) → T (not (is_nan x)) → mag x < 2 ^ 277 → Number x
@@ -97,8 +97,8 @@ finite_of_mag (inf s) f t h = absurd (lt_irrefl (2 ^ 277) h)
 finite_of_mag (fin s m e) f t h = record { fits32 = f; is_finite = tt }
 
 -- what is finite is no NaN
-pub finite-real : (x : Float) → T (finite x) → T (not (is_nan x))
+pub finite_real : (x : Float) → T (finite x) → T (not (is_nan x))
 unfolding is_nan
-finite-real nan t = t
-finite-real (inf s) t = tt
-finite-real (fin s m e) t = tt
+finite_real nan t = t
+finite_real (inf s) t = tt
+finite_real (fin s m e) t = tt

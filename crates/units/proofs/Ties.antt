@@ -15,10 +15,10 @@ use lib.Ieee.Scale.{finite}
 use Rattle.units.specs.Units.{mag, P, N, Number}
 use Rattle.units.proofs.Naturals.{le-or-lt, pow_split}
 use Rattle.units.proofs.Near.{Near}
-use Rattle.units.proofs.Size.{mag-digits}
+use Rattle.units.proofs.Size.{mag_digits}
 use Rattle.units.proofs.Signs.{sides, size-sum}
 use Rattle.units.proofs.Patterns.{Shape, packed_of}
-use Rattle.units.proofs.Round.{rnd, kept-le, rnd_half, closest_half}
+use Rattle.units.proofs.Round.{rnd, kept_le, rnd_half, closest_half}
 use Rattle.units.proofs.Result.{Rounds, rounds_plus, rounds_minus, rounds_nonpositive, rounds_nonnegative}
 use Rattle.units.proofs.Nearest.{steps, below, above, one_of_two, rnd_nearest}
 
@@ -138,9 +138,9 @@ module _ (n c q j : ℕ) (C : 0 < c) (few : q ≤ 2 ^ 24) where
   cancel : {x y : ℕ} → x * c ≡ y * c → x ≡ y
   cancel e = le_antisymm (le_of_mul-le-mul_right (le_of_eq e) C) (le_of_mul-le-mul_right (le_of_eq (sym e)) C)
 
-  pub kept-even : q * 2 ^ j * c + rnd n c * c ≡ 2 * n → ¬ (q * 2 ^ j ≡ rnd n c) → kept 24 n c % 2 ≡ 0
+  pub kept_even : q * 2 ^ j * c + rnd n c * c ≡ 2 * n → ¬ (q * 2 ^ j ≡ rnd n c) → kept 24 n c % 2 ≡ 0
   unfolding rnd
-  kept-even t d =
+  kept_even t d =
       go (closest_is n u (mul-pos C (pow_pos (drop 24 n c)))) (middle (q * 2 ^ j * c) (rnd n c * c) (steps n c * u) u (one_of_two n c) (div-mul-le_self n u) (lt-div-mul-add (mul-pos C (pow_pos (drop 24 n c)))) (rnd_half n c C) low high t (λ e. d (cancel e)))
     where
       low : q * 2 ^ j * c ≤ n → q * 2 ^ j * c ≤ steps n c * u
@@ -167,8 +167,8 @@ module _ (n c q j : ℕ) (C : 0 < c) (few : q ≤ 2 ^ 24) where
 
 -- ---- the pattern of a float whose digits are even ends in 0
 -- digits of a pattern are even where they are any even number of at most 24 digits
-even-digits : (m k q i : ℕ) → Shape m k → q ≤ 2 ^ 24 → m * 2 ^ k ≡ q * 2 ^ i → q % 2 ≡ 0 → m % 2 ≡ 0
-even-digits m k q i s few e even = elim (le-or-lt k i) [
+even_digits_lem : (m k q i : ℕ) → Shape m k → q ≤ 2 ^ 24 → m * 2 ^ k ≡ q * 2 ^ i → q % 2 ≡ 0 → m % 2 ≡ 0
+even_digits_lem m k q i s few e even = elim (le-or-lt k i) [
   | inl l ↦ twice (2 ^ (i - k)) (unscale k (e ∙ ap (λ (x : ℕ). q * x) (pow_split k i l) ∙ sym (mul_assoc q (2 ^ (i - k)) (2 ^ k))))
   | inr l ↦ elim s.first [
     | inl z ↦ absurd (omega arith)
@@ -191,8 +191,8 @@ even_ends : (z : Float) → Number z → (D c : ℕ) → mag z ≡ rnd D c → k
 unfolding rnd
 even_ends z n D c e even =
     let p = packed_of z n in
-    let o : p.m % 2 ≡ 0 = even-digits p.m p.k (kept 24 D c) (drop 24 D c) p.shape (kept-le D c) (sym p.units ∙ e) even in
-    let v = p.size-bits in
+    let o : p.m % 2 ≡ 0 = even_digits_lem p.m p.k (kept 24 D c) (drop 24 D c) p.shape (kept_le D c) (sym p.units ∙ e) even in
+    let v = p.size_bits_lem in
     omega arith
 
 -- the rounding is at most twice the number
@@ -202,9 +202,9 @@ rnd_double n c C = let h = rnd_nearest n c 0 0 n C zero-le (record { at_most = l
 -- a number D above zero, and a float w with the size x on its side of zero or y on the other: D in the middle between it and the rounding
 one_side : (w : Float) → Number w → (D c x y : ℕ) → 0 < c → ((x ≡ mag w) × (y ≡ 0)) ⊎ ((x ≡ 0) × (y ≡ mag w)) → (rnd D c + x) * c ≡ y * c + 2 * D → ¬ (x ≡ rnd D c + y) → kept 24 D c % 2 ≡ 0
 one_side w n D c x y C (inl (p, z)) t d =
-    let (q, j, few, is) = mag-digits w n in
+    let (q, j, few, is) = mag_digits w n in
     let e : x ≡ q * 2 ^ j = p ∙ is in
-    kept-even D c q j C (le_of_lt few) (rw (← e) (middle (rnd D c) t)) (λ h. d (e ∙ h ∙ none (rnd D c)))
+    kept_even D c q j C (le_of_lt few) (rw (← e) (middle (rnd D c) t)) (λ h. d (e ∙ h ∙ none (rnd D c)))
   where
     middle : (r : ℕ) → (r + x) * c ≡ y * c + 2 * D → x * c + r * c ≡ 2 * D
     middle r h = let k : y * c ≡ 0 = rw z (zero-mul c) in omega arith
@@ -214,7 +214,7 @@ one_side w n D c x y C (inl (p, z)) t d =
 one_side w n D c x y C (inr (z, p)) t d =
     let k : y * c ≡ 0 = short (rnd D c) t (rnd_double D c C) in
     let o : y ≡ 0 = unit (y) k in
-    kept-even D c 0 0 C zero-le (rest (rnd D c) k t) (λ h. d (z ∙ h' h o))
+    kept_even D c 0 0 C zero-le (rest (rnd D c) k t) (λ h. d (z ∙ h' h o))
   where
     short : (r : ℕ) → (r + x) * c ≡ y * c + 2 * D → r * c ≤ 2 * D → y * c ≡ 0
     short r h l = let k : x * c ≡ 0 = rw z (zero-mul c) in omega arith

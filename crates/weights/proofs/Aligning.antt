@@ -14,7 +14,7 @@ use Rattle.weights.specs.Lists.{at, sum}
 use Rattle.weights.specs.Softmax.{Element}
 use Rattle.weights.specs.Value.{power_at, share_of, share_at}
 use Rattle.weights.proofs.Range.{power}
-use Rattle.weights.proofs.Families.{sum-few}
+use Rattle.weights.proofs.Families.{sum_few}
 
 -- s is the number p in steps of 2 ^ (e - 20), rounded up by k steps at most
 pub record Aligned (p e k s : ℕ) : Type 0 where
@@ -42,8 +42,8 @@ module _ (r E e : ℕ) (up : E ≤ e) (small : r ≤ 2 ^ 33) where
       not_more : (q G U : ℕ) → q * G ≤ r * 1048576 → (q + 1) * (G * U) ≤ r * U * 2 ^ 20 + 1 * (G * U)
       not_more q G U h = omega (arith, mul-le-mul_right U h)
 
-  digits-few : q ≤ 2 ^ 53
-  digits-few = omega (arith, div-le_self (r * 1048576) G)
+  digits_few : q ≤ 2 ^ 53
+  digits_few = omega (arith, div-le_self (r * 1048576) G)
 
 -- of an element
 module _ (base : Base) (x : Float) (a : Element x) (e : ℕ) (up : fixed_exponent base x ≤ e) where
@@ -53,7 +53,7 @@ module _ (base : Base) (x : Float) (a : Element x) (e : ℕ) (up : fixed_exponen
 
   share_few : share_of base e x ≤ 2 ^ 53 + 1
   unfolding share_of
-  share_few = omega (arith, digits-few (fixed_digits base x) (fixed_exponent base x) e up (power x a base).most)
+  share_few = omega (arith, digits_few (fixed_digits base x) (fixed_exponent base x) e up (power x a base).most)
 
 -- ---- what is left of the digits d at k exponents below
 -- all of them up to 20
@@ -95,7 +95,7 @@ sum_aligned base xs e (suc n) all =
 
 -- 1,024 of them fit a word, with room for as many steps
 pub sum_fits : (base : Base) (xs : List Float) (e n : ℕ) → n ≤ 1024 → ((i : ℕ) → i < n → Element (at xs i) × (fixed_exponent base (at xs i) ≤ e)) → sum (share_at base e xs) n + 1024 < 2 ^ 64
-sum_fits base xs e n few all = room (sum (share_at base e xs) n) (sum-few (share_at base e xs) n (2 ^ 53 + 1) (λ i h. share_few base (at xs i) (all i h).0 e (all i h).1))
+sum_fits base xs e n few all = room (sum (share_at base e xs) n) (sum_few (share_at base e xs) n (2 ^ 53 + 1) (λ i h. share_few base (at xs i) (all i h).0 e (all i h).1))
   where
     room : (t : ℕ) → t ≤ n * (2 ^ 53 + 1) → t + 1024 < 2 ^ 64
     room t h = omega (arith, mul-le-mul_right (2 ^ 53 + 1) few)

@@ -14,7 +14,7 @@ use Rattle.units.specs.Units.{P}
 use Rattle.units.proofs.Naturals.{le-or-lt}
 use Rattle.powers.specs.Base.{Base}
 use Rattle.powers.specs.Fixed.{fixed_above, fixed_below}
-use Rattle.powers.proofs.Base.{power-most_of_less, power-least_of_more}
+use Rattle.powers.proofs.Base.{power_most_of_less, power_least_of_more}
 use Rattle.weights.specs.Lists.{at, sum}
 use Rattle.weights.specs.Softmax.{Elements, Encloses, NearQuotients, Whole, softmax_error_num, softmax_error_den, whole_error_num, whole_error_den}
 use Rattle.weights.specs.Value.{power_at}
@@ -60,15 +60,15 @@ module _ (p t T : ℕ) where
 
 -- ---- and for any enclosure, the one from l to u and the sum from L to R, with M for 2 ^ 149
 module _ (p l u L R M b : ℕ) (fine : b ≤ 2 ^ 23) where
-  relative-most : softmax_error_den * (p * L) ≤ (softmax_error_den + softmax_error_num) * (u * M) → b * (p * L) ≤ (b + 1) * (u * M)
-  relative-most h = ratio_weaker (p * L) (u * M) softmax_error_den (softmax_error_den + softmax_error_num) b (b + 1) (lit< tt) (turned (p * L) (u * M) h) (omega arith)
+  relative_most : softmax_error_den * (p * L) ≤ (softmax_error_den + softmax_error_num) * (u * M) → b * (p * L) ≤ (b + 1) * (u * M)
+  relative_most h = ratio_weaker (p * L) (u * M) softmax_error_den (softmax_error_den + softmax_error_num) b (b + 1) (lit< tt) (turned (p * L) (u * M) h) (omega arith)
     where
       turned : (a c : ℕ) → softmax_error_den * a ≤ (softmax_error_den + softmax_error_num) * c → a * softmax_error_den ≤ c * (softmax_error_den + softmax_error_num)
       turned a c h = omega arith
 
   -- one unit more of 2 ^ 48 counts for nothing
-  relative-least : 2 ^ 48 ≤ p + 1 → (softmax_error_den - softmax_error_num) * (l * M) ≤ softmax_error_den * ((p + 1) * R) → (b - 1) * (l * M) ≤ b * (p * R)
-  relative-least many h =
+  relative_least : 2 ^ 48 ≤ p + 1 → (softmax_error_den - softmax_error_num) * (l * M) ≤ softmax_error_den * ((p + 1) * R) → (b - 1) * (l * M) ≤ b * (p * R)
+  relative_least many h =
       ratio_weaker (l * M) (p * R) ((softmax_error_den - softmax_error_num) * (2 ^ 48 - 1)) (softmax_error_den * 2 ^ 48) (b - 1) b (lit< tt)
       (ratio_trans (l * M) ((p + 1) * R) (p * R) _ _ _ _ (turned (l * M) ((p + 1) * R) h) (one_less R)) (omega arith)
     where
@@ -78,8 +78,8 @@ module _ (p l u L R M b : ℕ) (fine : b ≤ 2 ^ 23) where
       one_less : (R : ℕ) → (p + 1) * R * (2 ^ 48 - 1) ≤ p * R * 2 ^ 48
       one_less R = omega (arith, mul-le-mul_right R many)
 
-  absolute-most : p ≤ 2 ^ 50 → softmax_error_den * (p * L) ≤ (softmax_error_den + softmax_error_num) * (u * M) → p * L ≤ u * M + 2 ^ 49 * L
-  absolute-most few h = elim (le-or-lt (2 ^ 50 * L) (u * M)) [
+  absolute_most : p ≤ 2 ^ 50 → softmax_error_den * (p * L) ≤ (softmax_error_den + softmax_error_num) * (u * M) → p * L ≤ u * M + 2 ^ 49 * L
+  absolute_most few h = elim (le-or-lt (2 ^ 50 * L) (u * M)) [
     | inl g ↦ le_trans (mul-le-mul_right L few) (le_trans g (omega arith))
     | inr g ↦ closer (p * L) (u * M) h g
   ]
@@ -87,8 +87,8 @@ module _ (p l u L R M b : ℕ) (fine : b ≤ 2 ^ 23) where
       closer : (a c : ℕ) → softmax_error_den * a ≤ (softmax_error_den + softmax_error_num) * c → c < 2 ^ 50 * L → a ≤ c + 2 ^ 49 * L
       closer a c h g = omega arith
 
-  absolute-least : l * M ≤ 2 ^ 49 * R → (softmax_error_den - softmax_error_num) * (l * M) ≤ softmax_error_den * ((p + 1) * R) → l * M ≤ (p + 2 ^ 49) * R
-  absolute-least below h = closer (l * M) R below h
+  absolute_least : l * M ≤ 2 ^ 49 * R → (softmax_error_den - softmax_error_num) * (l * M) ≤ softmax_error_den * ((p + 1) * R) → l * M ≤ (p + 2 ^ 49) * R
+  absolute_least below h = closer (l * M) R below h
     where
       closer : (a R : ℕ) → a ≤ 2 ^ 49 * R → (softmax_error_den - softmax_error_num) * a ≤ softmax_error_den * ((p + 1) * R) → a ≤ (p + 2 ^ 49) * R
       closer a R g h = omega arith
@@ -103,8 +103,8 @@ module _ (base : Base) (xs : List Float) (all : Elements xs) where
 
   own : Encloses base xs below above (D * (D + fixed_above) * 2 ^ 158)
   own = record {
-    below = λ j h. power-most_of_less (lit< tt) (le_of_eq (under D (D + fixed_above) (2 ^ 158) (power_at base xs j))) (power (at xs j) (all.each j h) base).at_most;
-    above = λ j h. power-least_of_more (lit< tt) (le_of_eq (over D (D + fixed_below) (D + fixed_above) (2 ^ 158) (power_at base xs j))) (power (at xs j) (all.each j h) base).at_least;
+    below = λ j h. power_most_of_less (lit< tt) (le_of_eq (under D (D + fixed_above) (2 ^ 158) (power_at base xs j))) (power (at xs j) (all.each j h) base).at_most;
+    above = λ j h. power_least_of_more (lit< tt) (le_of_eq (over D (D + fixed_below) (D + fixed_above) (2 ^ 158) (power_at base xs j))) (power (at xs j) (all.each j h) base).at_least;
   }
     where
       under : (D c B t : ℕ) → D * D * t * (c * B) ≡ D * t * (D * c * B)
@@ -114,11 +114,11 @@ module _ (base : Base) (xs : List Float) (all : Elements xs) where
       over D c e B t = omega arith
 
   -- a family in proportion has its sum in proportion
-  sum-most : (c : ℕ) → sum (λ j. c * power_at base xs j) (length xs) ≤ c * sum (power_at base xs) (length xs)
-  sum-most c = let h = sum-le (λ j. c * power_at base xs j) (power_at base xs) 1 c (length xs) (λ j l. omega arith) in omega arith
+  sum_most : (c : ℕ) → sum (λ j. c * power_at base xs j) (length xs) ≤ c * sum (power_at base xs) (length xs)
+  sum_most c = let h = sum-le (λ j. c * power_at base xs j) (power_at base xs) 1 c (length xs) (λ j l. omega arith) in omega arith
 
-  sum-least : (c : ℕ) → c * sum (power_at base xs) (length xs) ≤ sum (λ j. c * power_at base xs j) (length xs)
-  sum-least c = let h = sum-le (power_at base xs) (λ j. c * power_at base xs j) c 1 (length xs) (λ j l. omega arith) in omega arith
+  sum_least : (c : ℕ) → c * sum (power_at base xs) (length xs) ≤ sum (λ j. c * power_at base xs j) (length xs)
+  sum_least c = let h = sum-le (power_at base xs) (λ j. c * power_at base xs j) c 1 (length xs) (λ j l. omega arith) in omega arith
 
   module _ (ps : List Float) (near : NearQuotients base softmax_error_num softmax_error_den xs ps) (i : ℕ) (h : i < length xs) where
     abbrev p : ℕ
@@ -134,25 +134,25 @@ module _ (base : Base) (xs : List Float) (all : Elements xs) where
     output_large : QuotientAtLeast base xs i → 2 ^ 48 ≤ p + 1
     output_large q =
         large (p + 1) (power_at base xs i) T positive
-        (le_trans (near.least below above _ own i h) (mul-le-mul_left softmax_error_den (mul-le-mul_left (p + 1) (sum-most k)))) (le_trans (sum-least (D * D)) (q.holds below above _ own))
+        (le_trans (near.least below above _ own i h) (mul-le-mul_left softmax_error_den (mul-le-mul_left (p + 1) (sum_most k)))) (le_trans (sum_least (D * D)) (q.holds below above _ own))
 
     -- and where it is at most that
     output_small : QuotientAtMost base xs i → p ≤ 2 ^ 50
     output_small q =
         small p (power_at base xs i) T (lt_of_lt_of_le positive (member (power_at base xs) (length xs) i h))
-        (le_trans (mul-le-mul_left softmax_error_den (mul-le-mul_left p (sum-least (D * D)))) (near.most below above _ own i h)) (le_trans (q.holds below above _ own) (sum-most k))
+        (le_trans (mul-le-mul_left softmax_error_den (mul-le-mul_left p (sum_least (D * D)))) (near.most below above _ own i h)) (le_trans (q.holds below above _ own) (sum_most k))
 
 -- ---- the laws: from the promise to what is asked
 -- rel 1 / b where q_i ≥ 2 ^ -100, otherwise abs 2 ^ -100, for every b up to 2 ^ 23
 pub as_asked : (base : Base) (b : ℕ) → b ≤ 2 ^ 23 → (xs ps : List Float) → Elements xs → NearQuotients base softmax_error_num softmax_error_den xs ps → Asked base b xs ps
 as_asked base b fine xs ps all near = record {
   relative = λ i h q. record {
-    most = λ l u d e. relative-most (P (at ps i)) (l i) (u i) (sum l (length xs)) (sum u (length xs)) (2 ^ 149) b fine (near.most l u d e i h);
-    least = λ l u d e. relative-least (P (at ps i)) (l i) (u i) (sum l (length xs)) (sum u (length xs)) (2 ^ 149) b fine (output_large base xs all ps near i h q) (near.least l u d e i h);
+    most = λ l u d e. relative_most (P (at ps i)) (l i) (u i) (sum l (length xs)) (sum u (length xs)) (2 ^ 149) b fine (near.most l u d e i h);
+    least = λ l u d e. relative_least (P (at ps i)) (l i) (u i) (sum l (length xs)) (sum u (length xs)) (2 ^ 149) b fine (output_large base xs all ps near i h q) (near.least l u d e i h);
   };
   absolute = λ i h q. record {
-    most = λ l u d e. absolute-most (P (at ps i)) (l i) (u i) (sum l (length xs)) (sum u (length xs)) (2 ^ 149) b fine (output_small base xs all ps near i h q) (near.most l u d e i h);
-    least = λ l u d e. absolute-least (P (at ps i)) (l i) (u i) (sum l (length xs)) (sum u (length xs)) (2 ^ 149) b fine (scaled (l i) (2 ^ 100) (2 ^ 49) (sum u (length xs)) (q.holds l u d e)) (near.least l u d e i h);
+    most = λ l u d e. absolute_most (P (at ps i)) (l i) (u i) (sum l (length xs)) (sum u (length xs)) (2 ^ 149) b fine (output_small base xs all ps near i h q) (near.most l u d e i h);
+    least = λ l u d e. absolute_least (P (at ps i)) (l i) (u i) (sum l (length xs)) (sum u (length xs)) (2 ^ 149) b fine (scaled (l i) (2 ^ 100) (2 ^ 49) (sum u (length xs)) (q.holds l u d e)) (near.least l u d e i h);
   };
 }
   where

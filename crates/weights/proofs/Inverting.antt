@@ -39,31 +39,31 @@ module _ (N : ℕ) (low : 2 ^ 63 ≤ N) (high : N < 2 ^ 64) where
   not_more : R * d ≤ 2 ^ 62
   not_more = div-mul-le_self 4611686018427387904 d
 
-  not-less : 2 ^ 62 < R * d + d
-  not-less = lt-div-mul-add (omega arith)
+  not_less : 2 ^ 62 < R * d + d
+  not_less = lt-div-mul-add (omega arith)
 
   -- the quotient has 31 digits
-  digits-least : 2 ^ 30 ≤ R
-  digits-least = elim (le-or-lt (2 ^ 30) R) [ inl h ↦ h | inr h ↦ absurd (short R d (omega arith) not-less h) ]
+  digits_least : 2 ^ 30 ≤ R
+  digits_least = elim (le-or-lt (2 ^ 30) R) [ inl h ↦ h | inr h ↦ absurd (short R d (omega arith) not_less h) ]
     where
       short : (R d : ℕ) → d ≤ 2 ^ 32 → 2 ^ 62 < R * d + d → R < 2 ^ 30 → ⊥
       short R d a b h = omega (arith, mul-le-mul_right d h)
 
-  digits-most : R < 2 ^ 31
-  digits-most = elim (le-or-lt (2 ^ 31) R) [ inl h ↦ absurd (long R d (omega arith) not_more h) | inr h ↦ h ]
+  digits_most : R < 2 ^ 31
+  digits_most = elim (le-or-lt (2 ^ 31) R) [ inl h ↦ absurd (long R d (omega arith) not_more h) | inr h ↦ h ]
     where
       long : (R d : ℕ) → 2 ^ 31 < d → R * d ≤ 2 ^ 62 → 2 ^ 31 ≤ R → ⊥
       long R d a b h = omega (arith, mul-le-mul_right d h)
 
   -- N R is at most 2 ^ 94, and at most 6 parts in 2 ^ 32 less
-  product-most : N * R ≤ 2 ^ 94
-  product-most = through N R d (omega arith) not_more
+  product_most : N * R ≤ 2 ^ 94
+  product_most = through N R d (omega arith) not_more
     where
       through : (N R d : ℕ) → N ≤ d * 4294967296 → R * d ≤ 2 ^ 62 → N * R ≤ 2 ^ 94
       through N R d h k = omega (arith, mul-le-mul_right R h)
 
-  product-least : (2 ^ 32 - 6) * 2 ^ 94 ≤ 2 ^ 32 * (N * R)
-  product-least = through N R d (omega arith) (omega arith) not-less digits-most
+  product_least : (2 ^ 32 - 6) * 2 ^ 94 ≤ 2 ^ 32 * (N * R)
+  product_least = through N R d (omega arith) (omega arith) not_less digits_most
     where
       through : (N R d : ℕ) → d * 4294967296 ≤ N + 4294967296 → d ≤ 2 ^ 32 → 2 ^ 62 < R * d + d → R < 2 ^ 31 → (2 ^ 32 - 6) * 2 ^ 94 ≤ 2 ^ 32 * (N * R)
       through N R d h l k m = omega (arith, mul-le-mul_right R h)
@@ -72,17 +72,17 @@ module _ (N : ℕ) (low : 2 ^ 63 ≤ N) (high : N < 2 ^ 64) where
 module _ (s z : ℕ) (low : 2 ^ 63 ≤ s * 2 ^ z) (high : s * 2 ^ z < 2 ^ 64) where
   pub inverse_least : 2 ^ 30 ≤ inverse_of s z
   unfolding inverse_of
-  inverse_least = digits-least (s * 2 ^ z) low high
+  inverse_least = digits_least (s * 2 ^ z) low high
 
   pub inverse_most : inverse_of s z < 2 ^ 31
   unfolding inverse_of
-  inverse_most = digits-most (s * 2 ^ z) low high
+  inverse_most = digits_most (s * 2 ^ z) low high
 
   pub reciprocal_of : (e c : ℕ) → z + c ≡ e → Reciprocal s e (inverse_of s z) c
   unfolding inverse_of
   reciprocal_of e c whole = record {
-    most = rw shifted (mul-le-mul_right (2 ^ c) (product-most (s * 2 ^ z) low high));
-    least = rw shifted (scaled (2 ^ 32 - 6) (2 ^ 94) (2 ^ 32) (s * 2 ^ z * quotient_of (s * 2 ^ z)) (2 ^ c) (product-least (s * 2 ^ z) low high));
+    most = rw shifted (mul-le-mul_right (2 ^ c) (product_most (s * 2 ^ z) low high));
+    least = rw shifted (scaled (2 ^ 32 - 6) (2 ^ 94) (2 ^ 32) (s * 2 ^ z * quotient_of (s * 2 ^ z)) (2 ^ c) (product_least (s * 2 ^ z) low high));
   }
     where
       shifted : s * quotient_of (s * 2 ^ z) * 2 ^ e ≡ s * 2 ^ z * quotient_of (s * 2 ^ z) * 2 ^ c

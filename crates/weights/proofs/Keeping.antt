@@ -12,7 +12,7 @@ use Rattle.powers.specs.Base.{Base}
 use Rattle.powers.specs.Fixed.{fixed_digits}
 use Rattle.weights.specs.Lists.{at}
 use Rattle.weights.specs.Weight.{source_of, Sized, kept_at, Kept}
-use Rattle.weights.proofs.Source.{source-same, given_at, kept-none, kept-one}
+use Rattle.weights.proofs.Source.{source_same, given_at, kept_none, kept_one}
 
 -- p₀ became p, with the digits of the first j powers
 pub record Keeping (base : Base) (x : List Float) (p₀ p : List ℕ) (j : ℕ) : Type 0 where
@@ -28,7 +28,7 @@ module _ (base : Base) (x : List Float) (p₀ : List ℕ) where
   module _ (p : List ℕ) (j : ℕ) (k : Keeping base x p₀ p j) where
     -- the list that is weighed is the same
     pub keeping_source : source_of x p ≡ source_of x p₀
-    keeping_source = source-same x p₀ p k.own
+    keeping_source = source_same x p₀ p k.own
 
     pub keeping_sized : Sized x p₀ → Sized x p
     keeping_sized s = ap length keeping_source ∙ s ∙ sym k.same
@@ -36,10 +36,10 @@ module _ (base : Base) (x : List Float) (p₀ : List ℕ) where
     -- those of the power j
     module _ (q : ℕ) (next : List ℕ) (h : j < length p₀) (d : q + 2 ^ 32 ≡ fixed_digits base (at (source_of x p₀) j)) (e : next ≡ kept_at x p j q) where
       written : (length x ≡ 0 → ⊥) → next ≡ set p j q
-      written n = e ∙ kept-one x p j q n
+      written n = e ∙ kept_one x p j q n
 
       unwritten : length x ≡ 0 → next ≡ p
-      unwritten z = e ∙ kept-none x p j q z
+      unwritten z = e ∙ kept_none x p j q z
 
       as_long : length next ≡ length p
       as_long = elim (eq-zero-or-pos (length x)) [

@@ -38,11 +38,11 @@ key_back b small = elim (le-or-lt 2147483648 b) [
 ]
 
 -- sizes are in the order of their patterns
-size-order : (x y : Float) → Number x → Number y → float_bits x % 2147483648 ≤ float_bits y % 2147483648 → mag x ≤ mag y
-size-order x y n m l =
+size_order : (x y : Float) → Number x → Number y → float_bits x % 2147483648 ≤ float_bits y % 2147483648 → mag x ≤ mag y
+size_order x y n m l =
     let s = packed_of x n in
     let t = packed_of y m in
-    rw (s.units, t.units) (packed_le s.m s.k t.m t.k s.shape t.shape (rw (s.size-bits, t.size-bits) at l))
+    rw (s.units, t.units) (packed_le s.m s.k t.m t.k s.shape t.shape (rw (s.size_bits_lem, t.size_bits_lem) at l))
 
 -- and floats in that of their keys
 key_order : (x y : Float) → Number x → Number y → key_of (float_bits x) ≤ key_of (float_bits y) → Le x y
@@ -50,29 +50,29 @@ key_order x y n m l = elim (le-or-lt 2147483648 (float_bits x)) [
   | inl h ↦ elim (le-or-lt 2147483648 (float_bits y)) [
     | inl k ↦
         let small = to_bits-lt binary32 x n.fits32 in
-        let s = size-order y x m n (omega (arith, rw (key_set _ h, key_set _ k) at l)) in
+        let s = size_order y x m n (omega (arith, rw (key_set _ h, key_set _ k) at l)) in
         omega (arith, sign_set x n h, sign_set y m k)
     | inr k ↦ omega (arith, sign_set x n h, sign_clear y m k)
   ]
   | inr h ↦ elim (le-or-lt 2147483648 (float_bits y)) [
     | inl k ↦ absurd (omega (arith, rw (key_clear _ h, key_set _ k) at l))
     | inr k ↦
-        let s = size-order x y n m (omega (arith, rw (key_clear _ h, key_clear _ k) at l)) in
+        let s = size_order x y n m (omega (arith, rw (key_clear _ h, key_clear _ k) at l)) in
         omega (arith, sign_clear x n h, sign_clear y m k)
   ]
 ]
 
 -- ---- the largest of a family
-larger-most : (a b : ℕ) → (a ≤ larger a b) × (b ≤ larger a b)
-larger-most a b = elim (le-or-lt b a) [ inl l ↦ rw (le-ltb a b l) (omega arith, l) | inr l ↦ rw (lt-ltb a b l) (omega arith, omega arith) ]
+larger_most : (a b : ℕ) → (a ≤ larger a b) × (b ≤ larger a b)
+larger_most a b = elim (le-or-lt b a) [ inl l ↦ rw (le-ltb a b l) (omega arith, l) | inr l ↦ rw (lt-ltb a b l) (omega arith, omega arith) ]
 
 -- no member is above it
-not-above : (f : ℕ → ℕ) (n i : ℕ) → i < n → f i ≤ largest f n
+not_above : (f : ℕ → ℕ) (n i : ℕ) → i < n → f i ≤ largest f n
 unfolding largest
-not-above f zero i h = absurd (omega arith)
-not-above f (suc n) i h = elim (le-or-lt n i) [
-  | inl l ↦ let e : i ≡ n = omega arith in rw e (larger-most (largest f n) (f n)).1
-  | inr l ↦ le_trans (not-above f n i l) (larger-most (largest f n) (f n)).0
+not_above f zero i h = absurd (omega arith)
+not_above f (suc n) i h = elim (le-or-lt n i) [
+  | inl l ↦ let e : i ≡ n = omega arith in rw e (larger_most (largest f n) (f n)).1
+  | inr l ↦ le_trans (not_above f n i l) (larger_most (largest f n) (f n)).0
 ]
 
 -- and it is one of them
@@ -100,9 +100,9 @@ pub record Largest (xs : List Float) (m : Float) : Type 0 where
   pub there : at xs place ≡ m
   pub most : (i : ℕ) → i < length xs → Le (at xs i) m
 
-pub top-largest : (xs : List Float) → Elements xs → 0 < length xs → Largest xs (top_of xs)
+pub top_largest : (xs : List Float) → Elements xs → 0 < length xs → Largest xs (top_of xs)
 unfolding top_of
-top-largest xs all some =
+top_largest xs all some =
     let (i, h, e) = one_of_some (length xs) some in
     let n = (all.each i h).number in
     let there : at xs i ≡ of_bits binary32 (pattern_of (top_key xs)) = sym (ap (λ (k : ℕ). of_bits binary32 (pattern_of k)) (sym e) ∙ ap (of_bits binary32) (key_back _ (to_bits-lt binary32 (at xs i) n.fits32)) ∙ of_bits-to_bits binary32 (at xs i) n.fits32) in
@@ -110,7 +110,7 @@ top-largest xs all some =
       place = i;
       within = h;
       there = there;
-      most = λ j g. subst (Le (at xs j)) there (key_order (at xs j) (at xs i) (all.each j g).number n (le_trans (not-above (key_at xs) (length xs) j g) (le_of_eq (sym e))));
+      most = λ j g. subst (Le (at xs j)) there (key_order (at xs j) (at xs i) (all.each j g).number n (le_trans (not_above (key_at xs) (length xs) j g) (le_of_eq (sym e))));
     }
   where
     one_of_some : (n : ℕ) → 0 < n → (i : ℕ) × (i < n) × (key_at xs i ≡ largest (key_at xs) n)

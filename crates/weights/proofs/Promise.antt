@@ -21,11 +21,11 @@ use Rattle.weights.specs.Lists.{at, sum}
 use Rattle.weights.specs.Softmax.{Elements, Lengths, Accepts, Encloses, NearQuotients, Whole, Inside, Softmax, softmax_error_num, softmax_error_den, whole_error_num, whole_error_den}
 use Rattle.weights.specs.Value.{power_at, factor_of, places_of, unit_bits, weight_bits, weight_of, softmax_of}
 use Rattle.weights.proofs.Range.{power}
-use Rattle.weights.proofs.Families.{get-map, is-map, sum-le, sum_same, member}
+use Rattle.weights.proofs.Families.{get-map, is_map, sum-le, sum_same, member}
 use Rattle.weights.proofs.Scaled.{scaling, inverse}
 use Rattle.weights.proofs.Inverting.{Inverse}
 use Rattle.weights.proofs.Rounding.{weight_units, Placed, placed, units_most, units_least, units_one, weight_is, pattern_in, weight_order}
-use Rattle.weights.proofs.Quotient.{quotient_most, quotient_least, whole-most, whole-least, near-most, near-least}
+use Rattle.weights.proofs.Quotient.{quotient_most, quotient_least, whole_most, whole_least, near_most, near_least}
 
 -- ---- the powers of the elements against any enclosure of the real powers
 module _ (base : Base) (xs : List Float) (all : Elements xs) (l u : ℕ → ℕ) (d : ℕ) (e : Encloses base xs l u d) (j : ℕ) (h : j < length xs) where
@@ -96,7 +96,7 @@ module _ (base : Base) (xs : List Float) (all : Elements xs) (some : 1 ≤ lengt
   pub patterns : map (weight_bits base r c) xs ≡ list_bits ps
   unfolding softmax_of
   patterns =
-      is-map float_bits nan 0 ps (map (weight_bits base r c) xs) (length-map xs (weight_bits base r c) ∙ sym as_many)
+      is_map float_bits nan 0 ps (map (weight_bits base r c) xs) (length-map xs (weight_bits base r c) ∙ sym as_many)
       (λ i h. let k : i < n = omega (arith, as_many) in get-map (weight_bits base r c) nan 0 xs i k ∙ sym (ap float_bits (each i k) ∙ output_bits i k))
 
   -- ---- near
@@ -112,10 +112,10 @@ module _ (base : Base) (xs : List Float) (all : Elements xs) (some : 1 ≤ lengt
   near : NearQuotients base softmax_error_num softmax_error_den xs ps
   near = record {
     most = λ l u d e i h. rw (output_units i h)
-        (near-most (U i) (sum (power_at base xs) n) (power_at base xs i) d (2 ^ 158) (2 ^ 149) (pow_pos 158) (u i) (sum l n)
+        (near_most (U i) (sum (power_at base xs) n) (power_at base xs i) d (2 ^ 158) (2 ^ 149) (pow_pos 158) (u i) (sum l n)
         (sum-le l (power_at base xs) _ _ n (enclosed_below base xs all l u d e)) (enclosed_above base xs all l u d e i h) (quotient_most (power_at base xs) U n r c scale most least i h));
     least = λ l u d e i h. rw (output_units i h)
-        (near-least (U i + 1) (sum (power_at base xs) n) (power_at base xs i) d (2 ^ 158) (2 ^ 149) (pow_pos 158) (l i) (sum u n)
+        (near_least (U i + 1) (sum (power_at base xs) n) (power_at base xs i) d (2 ^ 158) (2 ^ 149) (pow_pos 158) (l i) (sum u n)
         (enclosed_below base xs all l u d e i h) (sum-le (power_at base xs) u _ _ n (enclosed_above base xs all l u d e)) (quotient_least (power_at base xs) U n r c scale most least i h));
   }
 
@@ -123,7 +123,7 @@ module _ (base : Base) (xs : List Float) (all : Elements xs) (some : 1 ≤ lengt
   whole : Whole whole_error_num whole_error_den ps
   whole =
       let same : sum (λ i. P (at ps i)) (length ps) ≡ sum U n = ap (sum (λ i. P (at ps i))) as_many ∙ sum_same (λ i. P (at ps i)) U n output_units in
-      record { most = rw same (whole-most (power_at base xs) U n r c scale most least); least = rw same (whole-least (power_at base xs) U n r c scale most least few) }
+      record { most = rw same (whole_most (power_at base xs) U n r c scale most least); least = rw same (whole_least (power_at base xs) U n r c scale most least few) }
 
   -- ---- order
   module _ (i j : ℕ) (h : i < n) (k : j < n) where

@@ -8,7 +8,7 @@ use lib.Pow.{pow_pos, pow_mono}
 use Rattle.powers.specs.Fixed.{fixed_above, fixed_below}
 use Rattle.weights.specs.Lists.{sum}
 use Rattle.weights.specs.Softmax.{softmax_error_num, softmax_error_den, whole_error_num, whole_error_den}
-use Rattle.weights.proofs.Families.{sum-le, sum-within}
+use Rattle.weights.proofs.Families.{sum-le, sum_within}
 use Rattle.weights.proofs.Inverting.{Inverse}
 
 module _ (t u : ℕ → ℕ) (n r c : ℕ) (inverse : Inverse (sum t n) r c)
@@ -35,21 +35,21 @@ module _ (t u : ℕ → ℕ) (n r c : ℕ) (inverse : Inverse (sum t n) r c)
   abbrev W : ℕ
   W = sum u n
 
-  total-most : W * (2 ^ 24 * 2 ^ c) ≤ T * (r * 2 ^ 75 * (2 ^ 24 + 1))
-  total-most = sum-le u t (2 ^ 24 * 2 ^ c) (r * 2 ^ 75 * (2 ^ 24 + 1)) n (λ i h. turned (u i) (t i) (2 ^ 24) (2 ^ c) (2 ^ 75) (2 ^ 24 + 1) (most i h))
+  total_most : W * (2 ^ 24 * 2 ^ c) ≤ T * (r * 2 ^ 75 * (2 ^ 24 + 1))
+  total_most = sum-le u t (2 ^ 24 * 2 ^ c) (r * 2 ^ 75 * (2 ^ 24 + 1)) n (λ i h. turned (u i) (t i) (2 ^ 24) (2 ^ c) (2 ^ 75) (2 ^ 24 + 1) (most i h))
     where
       turned : (u t A C L K : ℕ) → u * A * C ≤ t * r * L * K → u * (A * C) ≤ t * (r * L * K)
       turned u t A C L K h = omega arith
 
-  total-least : T * (r * 2 ^ 75 * (2 ^ 24 - 1)) ≤ (W + 1 * n) * (2 ^ 24 * 2 ^ c)
-  total-least = sum-within t u (r * 2 ^ 75 * (2 ^ 24 - 1)) (2 ^ 24 * 2 ^ c) 1 n (λ i h. turned (u i) (t i) (2 ^ 24) (2 ^ c) (2 ^ 75) (2 ^ 24 - 1) (least i h))
+  total_least : T * (r * 2 ^ 75 * (2 ^ 24 - 1)) ≤ (W + 1 * n) * (2 ^ 24 * 2 ^ c)
+  total_least = sum_within t u (r * 2 ^ 75 * (2 ^ 24 - 1)) (2 ^ 24 * 2 ^ c) 1 n (λ i h. turned (u i) (t i) (2 ^ 24) (2 ^ c) (2 ^ 75) (2 ^ 24 - 1) (least i h))
     where
       turned : (u t A C L K : ℕ) → t * r * L * K ≤ (u + 1) * A * C → t * (r * L * K) ≤ (u + 1) * (A * C)
       turned u t A C L K h = omega arith
 
   -- at most 1 + 263 2 ^ -32
-  pub whole-most : whole_error_den * W ≤ (whole_error_den + whole_error_num) * 2 ^ 149
-  whole-most = enough W (2 ^ 149) (le_of_mul-le-mul_right (through W T (2 ^ 24) (2 ^ 24 + 1) (2 ^ 75) (2 ^ 74) (2 ^ c) total-most inverse.most) (pow_pos c))
+  pub whole_most : whole_error_den * W ≤ (whole_error_den + whole_error_num) * 2 ^ 149
+  whole_most = enough W (2 ^ 149) (le_of_mul-le-mul_right (through W T (2 ^ 24) (2 ^ 24 + 1) (2 ^ 75) (2 ^ 74) (2 ^ c) total_most inverse.most) (pow_pos c))
     where
       through : (W T A K L M C : ℕ) → W * (A * C) ≤ T * (r * L * K) → T * r ≤ M * C → W * A * C ≤ L * M * K * C
       through W T A K L M C a b = omega (arith, mul-le-mul_left (L * K) b)
@@ -58,8 +58,8 @@ module _ (t u : ℕ → ℕ) (n r c : ℕ) (inverse : Inverse (sum t n) r c)
       enough W M h = omega arith
 
   -- at least 1 - 263 2 ^ -32: the units that are cut off, one for each, count for nothing
-  pub whole-least : n ≤ 1024 → (whole_error_den - whole_error_num) * 2 ^ 149 ≤ whole_error_den * W
-  whole-least few = enough W (2 ^ 149) (pow_mono {i = 66} {j = 149} (omega arith)) (le_of_mul-le-mul_right (through W T (2 ^ 24) (2 ^ 24 - 1) (2 ^ 32 - 7) (2 ^ 32) (2 ^ 75) (2 ^ 74) (2 ^ c) total-least inverse.least) (pow_pos c))
+  pub whole_least : n ≤ 1024 → (whole_error_den - whole_error_num) * 2 ^ 149 ≤ whole_error_den * W
+  whole_least few = enough W (2 ^ 149) (pow_mono {i = 66} {j = 149} (omega arith)) (le_of_mul-le-mul_right (through W T (2 ^ 24) (2 ^ 24 - 1) (2 ^ 32 - 7) (2 ^ 32) (2 ^ 75) (2 ^ 74) (2 ^ c) total_least inverse.least) (pow_pos c))
     where
       through : (W T A K J D L M C : ℕ) → T * (r * L * K) ≤ (W + 1 * n) * (A * C) → J * (M * C) ≤ D * (T * r) → L * M * K * J * C ≤ D * (W + n) * A * C
       through W T A K J D L M C a b = omega (arith, mul-le-mul_left (L * K) b, mul-le-mul_left D a)
@@ -91,9 +91,9 @@ module _ (p T t d B M : ℕ) (positive : 0 < B) where
       grouped B h = omega arith
 
   -- p ≤ (1 + 273 2 ^ -32) u / L
-  pub near-most : (u L : ℕ) → L * (2 ^ 32 * B) ≤ T * ((2 ^ 32 + fixed_below) * d) → t * (2 ^ 32 * d) ≤ u * ((2 ^ 32 + fixed_above) * B) → p * 2 ^ 24 * T ≤ t * (2 ^ 24 + 1) * M
+  pub near_most : (u L : ℕ) → L * (2 ^ 32 * B) ≤ T * ((2 ^ 32 + fixed_below) * d) → t * (2 ^ 32 * d) ≤ u * ((2 ^ 32 + fixed_above) * B) → p * 2 ^ 24 * T ≤ t * (2 ^ 24 + 1) * M
       → softmax_error_den * (p * L) ≤ (softmax_error_den + softmax_error_num) * (u * M)
-  near-most u L lower upper quotient =
+  near_most u L lower upper quotient =
       without softmax_error_den (p * L) (softmax_error_den + softmax_error_num) (u * M)
       (ratio_weaker (p * L * B) (u * M * B) _ _ softmax_error_den (softmax_error_den + softmax_error_num) (lit< tt)
       (ratio_trans (p * L * B) (t * M * d) (u * M * B) _ _ _ _ (ratio_trans (p * L * B) (p * T * d) (t * M * d) _ _ _ _ first second) third) (lit≤ tt))
@@ -108,9 +108,9 @@ module _ (p T t d B M : ℕ) (positive : 0 < B) where
       third = omega (arith, mul-le-mul_right M upper)
 
   -- (1 - 273 2 ^ -32) l / R ≤ p, for p with one least float more
-  pub near-least : (l R : ℕ) → l * (2 ^ 32 * B) ≤ t * ((2 ^ 32 + fixed_below) * d) → T * (2 ^ 32 * d) ≤ R * ((2 ^ 32 + fixed_above) * B) → t * (2 ^ 24 - 1) * (2 ^ 32 - 7) * M ≤ p * 2 ^ 24 * 2 ^ 32 * T
+  pub near_least : (l R : ℕ) → l * (2 ^ 32 * B) ≤ t * ((2 ^ 32 + fixed_below) * d) → T * (2 ^ 32 * d) ≤ R * ((2 ^ 32 + fixed_above) * B) → t * (2 ^ 24 - 1) * (2 ^ 32 - 7) * M ≤ p * 2 ^ 24 * 2 ^ 32 * T
       → (softmax_error_den - softmax_error_num) * (l * M) ≤ softmax_error_den * (p * R)
-  near-least l R lower upper quotient =
+  near_least l R lower upper quotient =
       without (softmax_error_den - softmax_error_num) (l * M) softmax_error_den (p * R)
       (ratio_weaker (l * M * B) (p * R * B) _ _ (softmax_error_den - softmax_error_num) softmax_error_den (lit< tt)
       (ratio_trans (l * M * B) (p * T * d) (p * R * B) _ _ _ _ (ratio_trans (l * M * B) (t * M * d) (p * T * d) _ _ _ _ first second) third) (lit≤ tt))

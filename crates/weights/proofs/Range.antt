@@ -17,7 +17,7 @@ use Rattle.fixed.proofs.Take.{no_nan}
 use Rattle.powers.specs.Exp as exp
 use Rattle.powers.specs.Base.{Base}
 use Rattle.powers.specs.Fixed.{fixed_exponent, FixedPower}
-use Rattle.powers.proofs.Fixed.{fixed, exponent-least, exponent-most}
+use Rattle.powers.proofs.Fixed.{fixed, exponent_least, exponent_most}
 use Rattle.weights.specs.Softmax.{Element}
 
 -- the digits of 64, with 132 for their exponent
@@ -56,8 +56,8 @@ module _ (x : Float) (a : Element x) where
   pub power : (base : Base) → FixedPower base x
   power base = fixed base x power_accepts
 
-  pub exponent-low : (base : Base) → 33 ≤ fixed_exponent base x
-  exponent-low base = exponent-least base x a.at_least
+  pub exponent_low : (base : Base) → 33 ≤ fixed_exponent base x
+  exponent_low base = exponent_least base x a.at_least
 
-  pub exponent-high : (base : Base) → fixed_exponent base x ≤ 218
-  exponent-high base = exponent-most base x a.at_most
+  pub exponent_high : (base : Base) → fixed_exponent base x ≤ 218
+  exponent_high base = exponent_most base x a.at_most

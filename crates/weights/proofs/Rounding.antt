@@ -13,7 +13,7 @@ use lib.Ieee.{binary32, of_bits}
 use Rattle.units.proofs.Naturals.{le-or-lt, pow_back, pow_split}
 use Rattle.units.proofs.Bits.{Is, put_positive}
 use Rattle.fixed.specs.Rounded.{Normal, nearest_bits}
-use Rattle.fixed.proofs.Rounding.{units_of, near-most, near-least, whole_units, is_positive, units_order, bits_fit}
+use Rattle.fixed.proofs.Rounding.{units_of, near_most, near_least, whole_units, is_positive, units_order, bits_fit}
 use Rattle.weights.specs.Value.{unit_bits}
 use Rattle.weights.specs.Weight.{Scaling, AtMostOne}
 
@@ -51,9 +51,9 @@ module _ (n E c : ℕ) (p : Placed n E c) where
     units_more = rw (lt-ltb c e more)
 
     -- the pattern is rounded
-    pub bits-more : unit_bits n e c ≡ nearest_bits n (e - c)
+    pub bits_more : unit_bits n e c ≡ nearest_bits n (e - c)
     unfolding unit_bits
-    bits-more = rw (lt-ltb c e more)
+    bits_more = rw (lt-ltb c e more)
 
     exponent_in : E ≤ 12 + c
     exponent_in =
@@ -71,28 +71,28 @@ module _ (n E c : ℕ) (p : Placed n E c) where
     over_c = mul_assoc n (2 ^ (e - c)) (2 ^ c) ∙ ap (λ (i : ℕ). n * i) (sym (pow_split c e (omega arith)) ∙ pow-add 2 E 115) ∙ sym (mul_assoc n (2 ^ E) (2 ^ 115))
 
     -- within one part in 2 ^ 24, from above and from below
-    more-most : U * 2 ^ 24 * 2 ^ c ≤ n * 2 ^ E * 2 ^ 75 * (2 ^ 24 + 1)
-    more-most = rw units_more (le_of_mul-le-mul_right (through (units_of n (e - c)) (n * 2 ^ (e - c)) (n * 2 ^ E) (2 ^ c) (2 ^ 24) (2 ^ 40) (2 ^ 75) (2 ^ 24 + 1) (near-most n (e - c) p.most normal) over_c) (pow_pos 40))
+    more_most : U * 2 ^ 24 * 2 ^ c ≤ n * 2 ^ E * 2 ^ 75 * (2 ^ 24 + 1)
+    more_most = rw units_more (le_of_mul-le-mul_right (through (units_of n (e - c)) (n * 2 ^ (e - c)) (n * 2 ^ E) (2 ^ c) (2 ^ 24) (2 ^ 40) (2 ^ 75) (2 ^ 24 + 1) (near_most n (e - c) p.most normal) over_c) (pow_pos 40))
       where
         through : (u v w C A M L K : ℕ) → u * (A * M) ≤ v * K → v * C ≡ w * (L * M) → u * A * C * M ≤ w * L * K * M
         through u v w C A M L K h o = omega (arith, mul-le-mul_right C h, ap (λ (i : ℕ). i * K) o)
 
-    more-least : n * 2 ^ E * 2 ^ 75 * (2 ^ 24 - 1) ≤ U * 2 ^ 24 * 2 ^ c
-    more-least = rw units_more (le_of_mul-le-mul_right (through (units_of n (e - c)) (n * 2 ^ (e - c)) (n * 2 ^ E) (2 ^ c) (2 ^ 24) (2 ^ 40) (2 ^ 75) (2 ^ 24 - 1) (near-least n (e - c) p.most normal) over_c) (pow_pos 40))
+    more_least : n * 2 ^ E * 2 ^ 75 * (2 ^ 24 - 1) ≤ U * 2 ^ 24 * 2 ^ c
+    more_least = rw units_more (le_of_mul-le-mul_right (through (units_of n (e - c)) (n * 2 ^ (e - c)) (n * 2 ^ E) (2 ^ c) (2 ^ 24) (2 ^ 40) (2 ^ 75) (2 ^ 24 - 1) (near_least n (e - c) p.most normal) over_c) (pow_pos 40))
       where
         through : (u v w C A M L K : ℕ) → v * K ≤ u * (A * M) → v * C ≡ w * (L * M) → w * L * K * M ≤ u * A * C * M
         through u v w C A M L K h o = omega (arith, mul-le-mul_right C h, ap (λ (i : ℕ). i * K) o)
 
     -- a normal float
     pub more_units : 2 ^ 23 ≤ U
-    more_units = rw units_more (half (units_of n (e - c)) (n * 2 ^ (e - c)) (near-least n (e - c) p.most normal) (normal.least (lt_of_lt_of_le (omega arith) p.least)))
+    more_units = rw units_more (half (units_of n (e - c)) (n * 2 ^ (e - c)) (near_least n (e - c) p.most normal) (normal.least (lt_of_lt_of_le (omega arith) p.least)))
       where
         half : (u v : ℕ) → v * (2 ^ 24 - 1) ≤ u * 2 ^ 64 → 2 ^ 63 ≤ v → 2 ^ 23 ≤ u
         half u v h l = omega arith
 
     -- 1 is a float
-    more-one : U ≤ 2 ^ 149
-    more-one = rw units_more (le_trans (units_order n (e - c) (2 ^ 63) 126 p.most normal (omega arith) one below) exact)
+    more_one : U ≤ 2 ^ 149
+    more_one = rw units_more (le_trans (units_order n (e - c) (2 ^ 63) 126 p.most normal (omega arith) one below) exact)
       where
         one : Normal (2 ^ 63) 126
         one = record { least = λ h. lit≤ tt; most = omega arith }
@@ -119,9 +119,9 @@ module _ (n E c : ℕ) (p : Placed n E c) where
     units_few = rw (le-ltb c e few)
 
     -- the pattern is cut off
-    pub bits-few : unit_bits n e c ≡ S
+    pub bits_few : unit_bits n e c ≡ S
     unfolding unit_bits
-    bits-few = rw (le-ltb c e few)
+    bits_few = rw (le-ltb c e few)
 
     -- over c again
     places : 2 ^ c ≡ H * (2 ^ E * 2 ^ 75)
@@ -130,14 +130,14 @@ module _ (n E c : ℕ) (p : Placed n E c) where
         pow_split (E + 75) c (omega arith) ∙ ap (λ (j : ℕ). 2 ^ j * 2 ^ (E + 75)) i ∙ ap (λ (j : ℕ). H * j) (pow-add 2 E 75)
 
     -- cut off to a whole unit
-    few-most : U * 2 ^ c ≤ n * 2 ^ E * 2 ^ 75
-    few-most = rw (units_few, places) (through S H (2 ^ E) (2 ^ 75) (div-mul-le_self n H))
+    few_most : U * 2 ^ c ≤ n * 2 ^ E * 2 ^ 75
+    few_most = rw (units_few, places) (through S H (2 ^ E) (2 ^ 75) (div-mul-le_self n H))
       where
         through : (s h v L : ℕ) → s * h ≤ n → s * (h * (v * L)) ≤ n * v * L
         through s h v L k = omega (arith, mul-le-mul_right (v * L) k)
 
-    few-least : n * 2 ^ E * 2 ^ 75 < (U + 1) * 2 ^ c
-    few-least = rw (units_few, places) (through S H (2 ^ E) (2 ^ 75) (mul-pos (pow_pos E) (pow_pos 75)) (lt-div-mul-add (pow_pos (c + 40 - e))))
+    few_least : n * 2 ^ E * 2 ^ 75 < (U + 1) * 2 ^ c
+    few_least = rw (units_few, places) (through S H (2 ^ E) (2 ^ 75) (mul-pos (pow_pos E) (pow_pos 75)) (lt-div-mul-add (pow_pos (c + 40 - e))))
       where
         through : (s h v L : ℕ) → 0 < v * L → n < s * h + h → n * v * L < (s + 1) * (h * (v * L))
         through s h v L o k = omega (arith, mul-lt-mul_of_pos_right k o)
@@ -150,21 +150,21 @@ module _ (n E c : ℕ) (p : Placed n E c) where
         small s h a b d = omega (arith, mul-le-mul_left s b)
 
     -- nothing is left behind 64 places
-    pub few-none : 64 ≤ c + 40 - e → S ≡ 0
-    few-none far = div-eq_of_lt (lt_of_lt_of_le p.most (pow_mono {i = 64} {j = c + 40 - e} far))
+    pub few_none : 64 ≤ c + 40 - e → S ≡ 0
+    few_none far = div-eq_of_lt (lt_of_lt_of_le p.most (pow_mono {i = 64} {j = c + 40 - e} far))
 
   -- ---- both
   -- the error: one part in 2 ^ 24, and from below one unit
   pub units_most : U * 2 ^ 24 * 2 ^ c ≤ n * 2 ^ E * 2 ^ 75 * (2 ^ 24 + 1)
-  units_most = elim (le-or-lt e c) [ inl h ↦ weaker U (2 ^ c) (n * 2 ^ E * 2 ^ 75) (2 ^ 24) (few-most h) | inr h ↦ more-most h ]
+  units_most = elim (le-or-lt e c) [ inl h ↦ weaker U (2 ^ c) (n * 2 ^ E * 2 ^ 75) (2 ^ 24) (few_most h) | inr h ↦ more_most h ]
     where
       weaker : (u C w A : ℕ) → u * C ≤ w → u * A * C ≤ w * (A + 1)
       weaker u C w A h = omega (arith, mul-le-mul_right A h)
 
   pub units_least : n * 2 ^ E * 2 ^ 75 * (2 ^ 24 - 1) ≤ (U + 1) * 2 ^ 24 * 2 ^ c
   units_least = elim (le-or-lt e c) [
-    | inl h ↦ weaker U (2 ^ c) (n * 2 ^ E * 2 ^ 75) (few-least h)
-    | inr h ↦ le_trans (more-least h) (mul-le-mul_right (2 ^ c) (mul-le-mul_right (2 ^ 24) (omega arith)))
+    | inl h ↦ weaker U (2 ^ c) (n * 2 ^ E * 2 ^ 75) (few_least h)
+    | inr h ↦ le_trans (more_least h) (mul-le-mul_right (2 ^ c) (mul-le-mul_right (2 ^ 24) (omega arith)))
   ]
     where
       weaker : (u C w : ℕ) → w < (u + 1) * C → w * (2 ^ 24 - 1) ≤ (u + 1) * 2 ^ 24 * C
@@ -174,20 +174,20 @@ module _ (n E c : ℕ) (p : Placed n E c) where
   pub units_one : U ≤ 2 ^ 149
   units_one = elim (le-or-lt e c) [
     | inl h ↦ rw (units_few h) (le_trans (le_of_lt (few_units h)) (pow_mono {i = 24} {j = 149} (omega arith)))
-    | inr h ↦ more-one h
+    | inr h ↦ more_one h
   ]
 
   -- the pattern is that of these units
   pub weight_is : Is (of_bits binary32 (unit_bits n e c)) false U
   weight_is = elim (le-or-lt e c) [
-    | inl h ↦ rw (bits-few h, units_few h) (rw (zero-mul, zero-add, pow-zero, mul-one) at (put_positive (S h) 0 (inl refl) (le_of_lt (few_units h)) (omega (arith, few_units h))))
-    | inr h ↦ rw (bits-more h, units_more h) (is_positive n (e - c) p.most (normal h))
+    | inl h ↦ rw (bits_few h, units_few h) (rw (zero-mul, zero-add, pow-zero, mul-one) at (put_positive (S h) 0 (inl refl) (le_of_lt (few_units h)) (omega (arith, few_units h))))
+    | inr h ↦ rw (bits_more h, units_more h) (is_positive n (e - c) p.most (normal h))
   ]
 
   pub pattern_in : unit_bits n e c < 255 * 8388608
   pattern_in = elim (le-or-lt e c) [
-    | inl h ↦ rw (bits-few h) (lt_of_lt_of_le (few_units h) (lit≤ tt))
-    | inr h ↦ rw (bits-more h) (bits_fit n (e - c) p.most (normal h))
+    | inl h ↦ rw (bits_few h) (lt_of_lt_of_le (few_units h) (lit≤ tt))
+    | inr h ↦ rw (bits_more h) (bits_fit n (e - c) p.most (normal h))
   ]
 
 -- ---- order: a larger power, with no smaller exponent, has no smaller weight
@@ -207,13 +207,13 @@ module _ (n E n' E' c : ℕ) (p : Placed n E c) (p' : Placed n' E' c) (up : E �
 
   both_few : E' + 115 ≤ c → u ≤ u'
   both_few h =
-      let k : u * 2 ^ c < (u' + 1) * 2 ^ c = lt_of_le_of_lt (le_trans (few-most n E c p (omega arith)) (mul-le-mul_right (2 ^ 75) l)) (few-least n' E' c p' h) in
+      let k : u * 2 ^ c < (u' + 1) * 2 ^ c = lt_of_le_of_lt (le_trans (few_most n E c p (omega arith)) (mul-le-mul_right (2 ^ 75) l)) (few_least n' E' c p' h) in
       let m : u < u' + 1 = lt_of_mul-lt-mul_right (2 ^ c) k in
       omega arith
 
   -- whole units from 2 ^ 23 to 2 ^ 24 are floats, and rounding keeps their order
-  few-more : E + 115 ≤ c → c < E' + 115 → u ≤ u'
-  few-more h h' = elim (le-or-lt (2 ^ 23) u) [
+  few_more : E + 115 ≤ c → c < E' + 115 → u ≤ u'
+  few_more h h' = elim (le-or-lt (2 ^ 23) u) [
     | inr k ↦ le_trans (le_of_lt k) (more_units n' E' c p' h')
     | inl k ↦
         let s : u < 2 ^ 24 = rw (units_few n E c p h) (few_units n E c p h) in
@@ -226,10 +226,10 @@ module _ (n E n' E' c : ℕ) (p : Placed n E c) (p' : Placed n' E' c) (up : E �
       scaled a C w w' L M g k = omega (arith, mul-le-mul_right M g, mul-le-mul_right (L * M) k)
 
       below : u * 2 ^ 40 ≤ n' * 2 ^ (E' + 115 - c)
-      below = le_of_mul-le-mul_right (rw (over_c n' E' c p' h') (scaled u (2 ^ c) (n * 2 ^ E) (n' * 2 ^ E') (2 ^ 75) (2 ^ 40) (few-most n E c p h) l)) (pow_pos c)
+      below = le_of_mul-le-mul_right (rw (over_c n' E' c p' h') (scaled u (2 ^ c) (n * 2 ^ E) (n' * 2 ^ E') (2 ^ 75) (2 ^ 40) (few_most n E c p h) l)) (pow_pos c)
 
   pub weight_order : u ≤ u'
   weight_order = elim (le-or-lt (E + 115) c) [
     | inr h ↦ both_more h
-    | inl h ↦ elim (le-or-lt (E' + 115) c) [ inl k ↦ both_few k | inr k ↦ few-more h k ]
+    | inl h ↦ elim (le-or-lt (E' + 115) c) [ inl k ↦ both_few k | inr k ↦ few_more h k ]
   ]

@@ -15,9 +15,9 @@ use Rattle.weights.specs.Lists.{at, sum}
 use Rattle.weights.specs.Softmax.{Element, Elements}
 use Rattle.weights.specs.Value.{top_of, top_exponent, power_at, total_of, factor_of, places_of}
 use Rattle.weights.specs.Weight.{Scaling}
-use Rattle.weights.proofs.Range.{power, exponent-low, exponent-high}
+use Rattle.weights.proofs.Range.{power, exponent_low, exponent_high}
 use Rattle.weights.proofs.Families.{member}
-use Rattle.weights.proofs.Keys.{Largest, top-largest}
+use Rattle.weights.proofs.Keys.{Largest, top_largest}
 use Rattle.weights.proofs.Aligning.{Aligned, sum_aligned, sum_fits, aligned_many}
 use Rattle.weights.proofs.Inverting.{Inverse, inverse_least, inverse_most, reciprocal_of, inverse_of_lem}
 
@@ -32,22 +32,22 @@ module _ (base : Base) (xs : List Float) (all : Elements xs) (some : 0 < length 
   e = top_exponent base xs
 
   largest : Largest xs (top_of xs)
-  largest = top-largest xs all some
+  largest = top_largest xs all some
 
   -- the largest element is one
   pub top_element : Element (top_of xs)
   top_element = subst Element largest.there (all.each largest.place largest.within)
 
-  pub top-low : 33 ≤ e
-  top-low = exponent-low (top_of xs) top_element base
+  pub top_low : 33 ≤ e
+  top_low = exponent_low (top_of xs) top_element base
 
   -- no element has a larger exponent
-  pub top-most : (i : ℕ) → i < length xs → fixed_exponent base (at xs i) ≤ e
-  top-most i h = (power (top_of xs) top_element base).exponents _ (largest.most i h)
+  pub top_most : (i : ℕ) → i < length xs → fixed_exponent base (at xs i) ≤ e
+  top_most i h = (power (top_of xs) top_element base).exponents _ (largest.most i h)
 
   aligned : Aligned (sum (power_at base xs) (length xs)) e (length xs) s
   unfolding total_of
-  aligned = sum_aligned base xs e (length xs) (λ i h. (all.each i h, top-most i h))
+  aligned = sum_aligned base xs e (length xs) (λ i h. (all.each i h, top_most i h))
 
   -- its power is among those of the sum
   pub many : 2 ^ 52 ≤ s
@@ -60,7 +60,7 @@ module _ (base : Base) (xs : List Float) (all : Elements xs) (some : 0 < length 
     -- the sum has 64 digits at most, and 53 at least
     fits : s < 2 ^ 64
     unfolding total_of
-    fits = omega (arith, sum_fits base xs e (length xs) few (λ i h. (all.each i h, top-most i h)))
+    fits = omega (arith, sum_fits base xs e (length xs) few (λ i h. (all.each i h, top_most i h)))
 
     digits : rounding.Placed s z
     digits = rounding.placed s (lt_of_lt_of_le (lit< tt) many) fits
@@ -73,9 +73,9 @@ module _ (base : Base) (xs : List Float) (all : Elements xs) (some : 0 < length 
     scaling = record {
       least = inverse_least s z digits.low digits.high;
       most = inverse_most s z digits.low digits.high;
-      high = omega (arith, exponent-high (top_of xs) top_element base);
+      high = omega (arith, exponent_high (top_of xs) top_element base);
     }
 
     pub inverse : Inverse (sum (power_at base xs) (length xs)) (factor_of base xs) (places_of base xs)
     unfolding factor_of places_of
-    inverse = let f = zeros in let l = top-low in inverse_of_lem _ _ _ _ _ _ aligned (reciprocal_of s z digits.low digits.high e (e - z) (omega arith)) many few
+    inverse = let f = zeros in let l = top_low in inverse_of_lem _ _ _ _ _ _ aligned (reciprocal_of s z digits.low digits.high e (e - z) (omega arith)) many few

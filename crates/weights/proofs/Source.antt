@@ -34,21 +34,21 @@ not-zero : {n : ℕ} → 0 < n → n ≡ 0 → ⊥
 not-zero h e = omega arith
 
 -- it is the same where p, if x is empty, is the same
-pub source-same : (x : List Float) (p q : List ℕ) → (length x ≡ 0 → q ≡ p) → source_of x q ≡ source_of x p
-source-same x p q s = elim (eq-zero-or-pos (length x)) [
+pub source_same : (x : List Float) (p q : List ℕ) → (length x ≡ 0 → q ≡ p) → source_of x q ≡ source_of x p
+source_same x p q s = elim (eq-zero-or-pos (length x)) [
   | inl e ↦ ap (source_of x) (s e)
   | inr e ↦ given x q (not-zero e) ∙ sym (given x p (not-zero e))
 ]
 
 -- ---- digits kept in p: none where x is empty
-pub kept-none : (x : List Float) (p : List ℕ) (i q : ℕ) → length x ≡ 0 → kept_at x p i q ≡ p
+pub kept_none : (x : List Float) (p : List ℕ) (i q : ℕ) → length x ≡ 0 → kept_at x p i q ≡ p
 unfolding kept_at
-kept-none x p i q e = rw (eq-eqb (length x) 0 e) refl
+kept_none x p i q e = rw (eq-eqb (length x) 0 e) refl
 
 -- those of the power i where it is not
-pub kept-one : (x : List Float) (p : List ℕ) (i q : ℕ) → (length x ≡ 0 → ⊥) → kept_at x p i q ≡ set p i q
+pub kept_one : (x : List Float) (p : List ℕ) (i q : ℕ) → (length x ≡ 0 → ⊥) → kept_at x p i q ≡ set p i q
 unfolding kept_at
-kept-one x p i q e = rw (ne_eqb (length x) 0 e) refl
+kept_one x p i q e = rw (ne_eqb (length x) 0 e) refl
 
 -- ---- the elements of p
 pub own_at : (x : List Float) (p : List ℕ) (i : ℕ) → length x ≡ 0 → i < length p → at (source_of x p) i ≡ of_bits binary32 (get_or p i 0)

@@ -3,7 +3,7 @@ use mathlib.Core.Path.{ap}
 use native.Mathlib.Omega.{arith}
 use Prim.Native.Nat.{ℕ, ◌+◌, ◌<◌}
 use Rattle.exactsums.proofs.Patterns.{exponent_of_lem}
-use Rattle.exactsums.proofs.Gathering.{added-one}
+use Rattle.exactsums.proofs.Gathering.{added_one}
 use Rattle.exactsums.proofs.add.Goals.{After-row}
 use Rattle.exactsums.proofs.add.Goals as goal
 
@@ -35,5 +35,5 @@ bounds-bins-k-2 c = room (goal.at.bounds-bins-k-2 c).After-row
 pub returns : goal.returns
 returns c =
     let t = c.times-t.result in
-    added-one c.args.x c.args.y c.args.bins.now t.digits t.place (c.row.result + t.place) c.requires.2.long
+    added_one c.args.x c.args.y c.args.bins.now t.digits t.place (c.row.result + t.place) c.requires.2.long
     c.times-t.ensures c.requires.0 c.requires.1 (ap (λ (n : ℕ). n + t.place) c.row.ensures)

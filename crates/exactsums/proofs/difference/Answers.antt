@@ -15,7 +15,7 @@ subtract-d-requires c = (c.requires, ones_digits)
 
 -- ---- above zero, or 0
 pub rounded-requires : goal.rounded-requires
-rounded-requires c = (c.subtract-d.ensures.digits-each, omega (arith, c.subtract-d.ensures.over_small))
+rounded-requires c = (c.subtract-d.ensures.digits_each, omega (arith, c.subtract-d.ensures.over_small))
 
 pub returns-then-d : goal.returns-then-d
 returns-then-d c =
@@ -30,7 +30,7 @@ pub overflow_sub-d-3 : goal.overflow_sub-d-3
 overflow_sub-d-3 c = omega (arith, c.if-d.false)
 
 pub rounded-requires-2 : goal.rounded-requires-2
-rounded-requires-2 c = (c.subtract-d.ensures.digits-each, omega (arith, c.subtract-d.ensures.under_small))
+rounded-requires-2 c = (c.subtract-d.ensures.digits_each, omega (arith, c.subtract-d.ensures.under_small))
 
 turned : (c : After-rounded-2)
     → 2147483648 + c.rounded-2.result

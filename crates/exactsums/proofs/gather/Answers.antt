@@ -10,7 +10,7 @@ use lib.Ieee.{nan}
 use borrow.Author.Rules.{scaled_Fits}
 use Rattle.units.specs.Tests.{Tells}
 use Rattle.exactsums.specs.Nearest.{Element}
-use Rattle.exactsums.proofs.Gathering.{small-most, begun, further, ended}
+use Rattle.exactsums.proofs.Gathering.{small_most, begun, further, ended}
 use Rattle.exactsums.proofs.gather.Goals.{After-take, In-loop-i}
 use Rattle.exactsums.proofs.gather.Goals as goal
 
@@ -39,7 +39,7 @@ bounds-b-k c = in-second (goal.at.bounds-b-k c).In-loop-i
 
 pub take-requires : goal.take-requires
 take-requires c =
-    small-most (c.loop-i.i + 1) 4096 c.loop-i.bins (le_trans (up c.loop-i-test.true) c.requires.1) c.loop-i.invariant.small
+    small_most (c.loop-i.i + 1) 4096 c.loop-i.bins (le_trans (up c.loop-i-test.true) c.requires.1) c.loop-i.invariant.small
   where
     up : {i n : ℕ} → i < n → i + 1 ≤ n
     up h = omega arith

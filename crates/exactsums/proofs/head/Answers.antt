@@ -2,8 +2,8 @@
 use mathlib.Core.Path.{◌≡◌}
 use Prim.Native.Nat.{ℕ, ◌+◌, ◌-◌, ◌*◌, ◌^◌, ◌≤◌, ◌<◌}
 use native.Mathlib.Omega.{arith}
-use Rattle.exactsums.proofs.Bins.{number-none}
-use Rattle.exactsums.proofs.Heads.{start-plus, start-minus, next_plus, next_minus}
+use Rattle.exactsums.proofs.Bins.{number_none}
+use Rattle.exactsums.proofs.Heads.{start_plus, start_minus, next_plus, next_minus}
 use Rattle.exactsums.proofs.head.Goals as goal
 
 -- facts on plain numbers
@@ -20,7 +20,7 @@ more : {h d : ℕ} → h < 144115188075855872 → d < 16 → 16 * h + d < 2 ^ 61
 more l m = omega arith
 
 pub loop-i-init : goal.loop-i-init
-loop-i-init c = (omega arith, under c.requires.1, start-plus c.args.top c.args.digits.now c.args.below, start-minus c.args.top c.args.digits.now c.args.below c.requires.0)
+loop-i-init c = (omega arith, under c.requires.1, start_plus c.args.top c.args.digits.now c.args.below, start_minus c.args.top c.args.digits.now c.args.below c.requires.0)
 
 pub overflow_sub-i : goal.overflow_sub-i
 overflow_sub-i c = c.loop-i-test.true
@@ -56,7 +56,7 @@ returns-else-h-lt144115188075855872 c =
 pub returns-after-loop-i : goal.returns-after-loop-i
 returns-after-loop-i c =
     let l = c.loop-i in
-    record { room = l.invariant.0; small = l.invariant.1; enough = λ k. absurd (never (number-none c.args.digits.now 0 l.i c.loop-i-test.false) k); plus = l.invariant.2; minus = l.invariant.3 }
+    record { room = l.invariant.0; small = l.invariant.1; enough = λ k. absurd (never (number_none c.args.digits.now 0 l.i c.loop-i-test.false) k); plus = l.invariant.2; minus = l.invariant.3 }
   where
     never : {n : ℕ} → n ≡ 0 → 0 < n → ⊥
     never e m = omega arith

@@ -6,7 +6,7 @@ use native.Mathlib.Numerals.{add-one}
 use native.Mathlib.Omega.{arith}
 use lib.ListN.{get_or}
 use Rattle.exactsums.specs.Work.{number}
-use Rattle.exactsums.proofs.Bins.{number_next, number_next₀, number-written, digits-set, subtract_step}
+use Rattle.exactsums.proofs.Bins.{number_next, number_next₀, number_written, digits_set, subtract_step}
 use Rattle.exactsums.proofs.subtract.Goals as goal
 
 pub loop-j-init : goal.loop-j-init
@@ -38,8 +38,8 @@ loop-j-preserved c =
       omega arith,
       omega (arith, c.requires.0.each j),
       omega (arith, c.requires.0.each (41 + j)),
-      digits-set ds j d h c.loop-j-test.true (omega arith),
-      rw (number_next₀ bins j, number_next bins 41 j, number-written ds j d (omega (arith, h.long)), add-one j, pow-suc 16 j)
+      digits_set ds j d h c.loop-j-test.true (omega arith),
+      rw (number_next₀ bins j, number_next bins 41 j, number_written ds j d (omega (arith, h.long)), add-one j, pow-suc 16 j)
           (subtract_step (number bins 0 j) (number bins 41 j) (number ds 0 j) (16 ^ j) f g l.over l.under l.invariant.4),
     )
 
@@ -47,4 +47,4 @@ pub returns : goal.returns
 returns c =
     let l = c.loop-j in
     let e : l.j ≡ 41 = omega arith in
-    record { same = rw e at l.invariant.4; digits-each = l.invariant.3; over_small = l.invariant.1; under_small = l.invariant.2 }
+    record { same = rw e at l.invariant.4; digits_each = l.invariant.3; over_small = l.invariant.1; under_small = l.invariant.2 }

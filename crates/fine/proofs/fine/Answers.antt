@@ -7,7 +7,7 @@ use lib.Dec.{lit<}
 use lib.ListN.{drop}
 use Rattle.fixed.specs.Horner.{horner}
 use Rattle.fixed.proofs.Horner.{horner-one, horner_step}
-use Rattle.fixed.proofs.Chains.{altogether, horner-most}
+use Rattle.fixed.proofs.Chains.{altogether, horner_most}
 use Rattle.fine.specs.Value.{coefficients, fine_of}
 use Rattle.fine.proofs.Method.{U}
 use Rattle.fine.proofs.fine.Goals.{After-short-p, After-short-p-2, After-short-p-3, After-short-p-4, After-short-p-5, After-step-p, After-step-p-10, After-step-p-11, After-step-p-2, After-step-p-3, After-step-p-4, After-step-p-5, After-step-p-6, After-step-p-7, After-step-p-8, After-step-p-9, Start}
@@ -19,7 +19,7 @@ from i = drop i coefficients
 
 -- what is made of them fits with one coefficient more: all together they do
 fits : (s : Start) (c : ℕ) (cs : List ℕ) (p w : ℕ) → p ≡ horner U cs s.args.t → c + altogether cs < w → c + p < w
-fits s c cs p w e h = omega (arith, horner-most U s.args.t (lit< tt) (omega arith) cs)
+fits s c cs p w e h = omega (arith, horner_most U s.args.t (lit< tt) (omega arith) cs)
 
 made-short : (c : After-short-p) → c.short-p.result ≡ horner U (from 15) c.args.t
 unfolding coefficients

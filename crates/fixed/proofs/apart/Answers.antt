@@ -1,6 +1,6 @@
 -- `fixed::apart` meets its contract: each branch is a law of `Take`. Assumes nothing.
 use native.Mathlib.Omega.{arith}
-use Rattle.fixed.proofs.Take.{no_nan, leading_low, shift_low, apart_low, apart-high}
+use Rattle.fixed.proofs.Take.{no_nan, leading_low, shift_low, apart_low, apart_high}
 use Rattle.fixed.proofs.apart.Goals as goal
 
 pub float_to_bits-b : goal.float_to_bits-b
@@ -16,10 +16,10 @@ pub overflow_sub-result : goal.overflow_sub-result
 overflow_sub-result c = omega (arith, shift_low c.args.x c.requires c.if-b-lt8388608.true)
 
 pub overflow_add-result-else-b-lt8388608 : goal.overflow_add-result-else-b-lt8388608
-overflow_add-result-else-b-lt8388608 c = omega (arith, (apart-high c.args.x c.requires c.if-b-lt8388608.false).high)
+overflow_add-result-else-b-lt8388608 c = omega (arith, (apart_high c.args.x c.requires c.if-b-lt8388608.false).high)
 
 pub returns-then-b-lt8388608 : goal.returns-then-b-lt8388608
 returns-then-b-lt8388608 c = apart_low c.args.x c.requires c.if-b-lt8388608.true
 
 pub returns-else-b-lt8388608 : goal.returns-else-b-lt8388608
-returns-else-b-lt8388608 c = apart-high c.args.x c.requires c.if-b-lt8388608.false
+returns-else-b-lt8388608 c = apart_high c.args.x c.requires c.if-b-lt8388608.false

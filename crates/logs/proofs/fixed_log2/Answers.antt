@@ -2,7 +2,7 @@
 use Rattle.std.proofs.Common.{arith}
 use Rattle.fixed.proofs.Take.{no_nan}
 use Rattle.logs.specs.Value.{fixed_of}
-use Rattle.logs.proofs.Reduction.{bits-few}
+use Rattle.logs.proofs.Reduction.{bits_few}
 use Rattle.logs.proofs.Logarithm.{fixed_promised}
 use Rattle.logs.proofs.fixed_log2.Goals as goal
 
@@ -10,7 +10,7 @@ pub float_to_bits-x : goal.float_to_bits-x
 float_to_bits-x c = no_nan c.args.x c.requires.number
 
 pub fixed_bits-requires : goal.fixed_bits-requires
-fixed_bits-requires c = omega (arith, bits-few c.args.x c.requires)
+fixed_bits-requires c = omega (arith, bits_few c.args.x c.requires)
 
 pub returns : goal.returns
 unfolding fixed_of

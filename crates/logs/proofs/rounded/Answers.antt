@@ -3,7 +3,7 @@ use Rattle.std.proofs.Common.{◌≡◌, ℕ, ◌+◌, ◌*◌, ◌/◌, ◌%◌
 use lib.Count.{count_leading_zeros}
 use Rattle.fixed.proofs.Rounding.{Placed, placed}
 use Rattle.logs.specs.Value.{first_word, width_of, is_left_open, log2_digits}
-use Rattle.logs.proofs.Rounding.{sign-few, together}
+use Rattle.logs.proofs.Rounding.{sign_few, together}
 use Rattle.logs.proofs.Told.{width_most}
 use Rattle.logs.proofs.rounded.Goals.{After-first_word-f}
 use Rattle.logs.proofs.rounded.Goals as goal
@@ -41,7 +41,7 @@ pub overflow_sub-result : goal.overflow_sub-result
 overflow_sub-result c = let f = c.before.before.before.before in rw (zeros f) (omega (arith, (digits f).small))
 
 pub overflow_add-result-then-f-ge16-2 : goal.overflow_add-result-then-f-ge16-2
-overflow_add-result-then-f-ge16-2 c = rw c.sign.ensures (omega (arith, sign-few (w c.before.before.before.before.before)))
+overflow_add-result-then-f-ge16-2 c = rw c.sign.ensures (omega (arith, sign_few (w c.before.before.before.before.before)))
 
 pub returns-then-f-ge16 : goal.returns-then-f-ge16
 returns-then-f-ge16 c =

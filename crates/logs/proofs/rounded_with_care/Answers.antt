@@ -3,7 +3,7 @@ use Rattle.std.proofs.Common.{◌≡◌, ℕ, ◌^◌, ◌<◌, ◌≤◌, sym, 
 use lib.Count.{count_leading_zeros}
 use Rattle.fixed.proofs.Rounding.{Placed, placed}
 use Rattle.logs.specs.Value.{distance_of, first_word, width_of}
-use Rattle.logs.proofs.Rounding.{none-bits, digits-few, sign-few, together}
+use Rattle.logs.proofs.Rounding.{none_bits, digits_few, sign_few, together}
 use Rattle.logs.proofs.Told.{width_most, few_zeros}
 use Rattle.logs.proofs.rounded_with_care.Goals.{After-digits, After-first_word-f}
 use Rattle.logs.proofs.rounded_with_care.Goals as goal
@@ -33,7 +33,7 @@ module _ (c : After-first_word-f) where
   word = c.first_word-f.ensures.0
 
 pub returns-then-n-eq0 : goal.returns-then-n-eq0
-returns-then-n-eq0 c = sym (none-bits c.args.b c.args.w (sym c.distance-n.ensures ∙ c.if-n-eq0.true))
+returns-then-n-eq0 c = sym (none_bits c.args.b c.args.w (sym c.distance-n.ensures ∙ c.if-n-eq0.true))
 
 pub overflow_sub-result : goal.overflow_sub-result
 overflow_sub-result c = rw (zeros c.before.before) (omega (arith, (digits c.before.before).small))
@@ -43,13 +43,13 @@ digits-requires c = λ o. rw (zeros c.before.before) (le_trans (few_zeros (n c.b
 
 -- the digits are no more than 24, or a carry
 carry : (c : After-digits) → c.digits.result ≤ 2 ^ 24
-carry c = rw c.digits.ensures (digits-few _ _ _ _ (omega arith))
+carry c = rw c.digits.ensures (digits_few _ _ _ _ (omega arith))
 
 pub overflow_add-result : goal.overflow_add-result
 overflow_add-result c = omega (arith, carry c)
 
 pub overflow_add-result-2 : goal.overflow_add-result-2
-overflow_add-result-2 c = rw c.sign.ensures (omega (arith, carry c, sign-few (w c.before.before.before)))
+overflow_add-result-2 c = rw c.sign.ensures (omega (arith, carry c, sign_few (w c.before.before.before)))
 
 pub returns : goal.returns
 returns c = let f = c.before.before.before in together _ _ _ (n f) _ _ _ c.sign.ensures (is-distance f) (word f) (zeros f) c.digits.ensures (above f)

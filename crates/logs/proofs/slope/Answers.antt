@@ -5,7 +5,7 @@ use Rattle.logs.specs.Value.{slope}
 use Rattle.logs.proofs.slope.Goals as goal
 
 pub step-requires : goal.step-requires
-step-requires c = (c.of_sixteenth-t.ensures.room-d, omega arith)
+step-requires c = (c.of_sixteenth-t.ensures.room_d, omega arith)
 
 pub step-requires-2 : goal.step-requires-2
 step-requires-2 c = (c.of_sixteenth-t.ensures.room_c, omega arith)

@@ -15,7 +15,7 @@ pub returns-then-b : goal.returns-then-b
 returns-then-b c = refuse (λ v. no_number _ c.if-b.true v.b_number)
 
 pub returns-then-m : goal.returns-then-m
-returns-then-m c = refuse (λ v. no_number _ c.if-m.true v.m-number)
+returns-then-m c = refuse (λ v. no_number _ c.if-m.true v.m_number)
 
 pub float_to_bits-l : goal.float_to_bits-l
 float_to_bits-l c = equal_to_itself _ c.if-b.false

@@ -25,8 +25,8 @@ module _ (k n h : ℕ) (qu : Quotient k n h) where
   product : k * n ≤ 1023 * h
   product = mul-le-mul qu.steps qu.within
 
-  p-few : p < 8796093022208
-  p-few = few (k * n) product qu.word
+  p_few : p < 8796093022208
+  p_few = few (k * n) product qu.word
     where
       few : (x : ℕ) → x ≤ 1023 * h → h < 4294967296 → x + h / 2 < 8796093022208
       few x l w = omega arith
@@ -86,7 +86,7 @@ module _ (k n h : ℕ) (qu : Quotient k n h) where
 
 -- ---- the words
 word : (c : Start) → c.args.k * c.args.n + c.args.h / 2 < 8796093022208
-word c = p-few c.args.k c.args.n c.args.h c.requires
+word c = p_few c.args.k c.args.n c.args.h c.requires
 
 pub overflow_mul-p : goal.overflow_mul-p
 overflow_mul-p c = omega (arith, product c.args.k c.args.n c.args.h c.requires, c.requires.word)

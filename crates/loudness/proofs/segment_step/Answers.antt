@@ -4,7 +4,7 @@ use lib.Ieee.{Float}
 use Rattle.units.specs.Units.{P}
 use Rattle.fixed.proofs.Take.{no_nan}
 use Rattle.loudness.specs.Segment.{Segment}
-use Rattle.loudness.proofs.Known.{Sound, low-sound, high-sound}
+use Rattle.loudness.proofs.Known.{Sound, low_sound, high_sound}
 use Rattle.loudness.proofs.Growth.{step_quiet, step_loud, step_between, inside}
 use Rattle.loudness.proofs.Sizes.{up_to, past, from, short}
 use Rattle.loudness.proofs.segment_step.Goals.{Else-m-p, Else-p-b}
@@ -14,10 +14,10 @@ pub size_bits-p-requires : goal.size_bits-p-requires
 size_bits-p-requires c = no_nan _ c.requires.1.number
 
 low : {b m : Float} {t c : ℕ} → Segment b m t c → Sound b
-low g = low-sound g.levels
+low g = low_sound g.levels
 
 high : {b m : Float} {t c : ℕ} → Segment b m t c → Sound m
-high g = high-sound g.levels
+high g = high_sound g.levels
 
 pub float_to_bits-b : goal.float_to_bits-b
 float_to_bits-b c = no_nan _ (low c.requires.0).number

@@ -1,20 +1,20 @@
 -- `loudness::steps_between` meets its contract: three logarithms, two rises, one quotient. Assumes nothing.
 use Rattle.std.proofs.Common.{◌≡◌, ℕ, ◌-◌, ◌≤◌, sym, ◌∙◌, ap₂, le_trans, le_of_eq, le_of_lt, arith}
 use Rattle.loudness.specs.Value.{rise_of, places_of, word_of, steps_of}
-use Rattle.loudness.proofs.Known.{Sound, low-sound, high-sound, accepted, rises}
-use Rattle.loudness.proofs.Words.{places, full, word-most, rise_whole}
-use Rattle.loudness.proofs.Growth.{b≤m, between-sound, few, span_long, span_few, rise_most}
+use Rattle.loudness.proofs.Known.{Sound, low_sound, high_sound, accepted, rises}
+use Rattle.loudness.proofs.Words.{places, full, word_most, rise_whole}
+use Rattle.loudness.proofs.Growth.{b≤m, between_sound, few, span_long, span_few, rise_most}
 use Rattle.loudness.proofs.steps_between.Goals.{After-fixed_log2-2, Start}
 use Rattle.loudness.proofs.steps_between.Goals as goal
 
 low : (c : Start) → Sound c.args.b
-low c = low-sound c.requires.segment.levels
+low c = low_sound c.requires.segment.levels
 
 high : (c : Start) → Sound c.args.m
-high c = high-sound c.requires.segment.levels
+high c = high_sound c.requires.segment.levels
 
 middle : (c : Start) → Sound c.args.a
-middle c = between-sound _ _ _ _ c.requires.segment _ c.requires.number (le_of_lt c.requires.above) (le_of_lt c.requires.below)
+middle c = between_sound _ _ _ _ c.requires.segment _ c.requires.number (le_of_lt c.requires.above) (le_of_lt c.requires.below)
 
 pub fixed_log2-low-requires : goal.fixed_log2-low-requires
 fixed_log2-low-requires c = accepted (low c)
@@ -79,7 +79,7 @@ nearest_step-requires c =
     let g = (start u).requires.segment in
     let (f, h) = full _ (span_long _ _ _ _ g) (span_few _ _ _ _ g) in
     rw (c.upper_word-2.ensures, c.upper_word.ensures, rise u, span u)
-    (record { steps = few _ _ _ _ g; within = word-most _ (span_long _ _ _ _ g) (span_few _ _ _ _ g) _ (rise-le u); full = f; word = h })
+    (record { steps = few _ _ _ _ g; within = word_most _ (span_long _ _ _ _ g) (span_few _ _ _ _ g) _ (rise-le u); full = f; word = h })
 
 pub returns : goal.returns
 unfolding steps_of places_of word_of

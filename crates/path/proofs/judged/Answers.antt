@@ -10,7 +10,7 @@ use Rattle.spectrum.specs.Transform.{at}
 use Rattle.spectrum.specs.Floats.{Largest}
 use Rattle.path.specs.Path.{Accepts}
 use Rattle.path.specs.Ready.{Small}
-use Rattle.path.proofs.Frames.{small-words, parts_few}
+use Rattle.path.proofs.Frames.{small_words, parts_few}
 use Rattle.path.proofs.Promise.{small_by, sample_of, too_large, refused_sample, promised}
 use Rattle.path.proofs.judged.Goals.{Else-largest-gt1065353216-2}
 use Rattle.path.proofs.judged.Goals as goal
@@ -53,7 +53,7 @@ fill-requires c =
       apart = refl;
       start = omega arith;
       as_many = p.ensures.as_many;
-      small = small-words c.args.x.now c.args.w.now few p.new.y p.ensures;
+      small = small_words c.args.x.now c.args.w.now few p.new.y p.ensures;
     }
 
 pub moduli-requires : goal.moduli-requires

@@ -2,7 +2,7 @@
 use Rattle.std.proofs.Common.{◌≡◌, ℕ, ◌+◌, ◌%◌, ◌^◌, ◌≤◌, ap, ◌∙◌, subst, le_trans, arith, lit≤}
 use Rattle.units.specs.Units.{mag}
 use Rattle.fixed.proofs.Take.{no_nan}
-use Rattle.powers.proofs.Places.{places-few, read_exponent, shifted, taken_plus, taken_minus}
+use Rattle.powers.proofs.Places.{places_few, read_exponent, shifted, taken_plus, taken_minus}
 use Rattle.powers.proofs.fraction.Goals.{Start}
 use Rattle.powers.proofs.fraction.Goals as goal
 
@@ -17,7 +17,7 @@ pub overflow_sub-s : goal.overflow_sub-s
 overflow_sub-s c = omega (arith, read_exponent c.args.x c.requires.0 (size (goal.at.overflow_sub-s c).Start))
 
 pub overflow_shl-s : goal.overflow_shl-s
-overflow_shl-s c = omega (arith, read_exponent c.args.x c.requires.0 (size (goal.at.overflow_shl-s c).Start), places-few c.args.x c.requires.0 (size (goal.at.overflow_shl-s c).Start))
+overflow_shl-s c = omega (arith, read_exponent c.args.x c.requires.0 (size (goal.at.overflow_shl-s c).Start), places_few c.args.x c.requires.0 (size (goal.at.overflow_shl-s c).Start))
 
 pub returns-then-b-lt2147483648 : goal.returns-then-b-lt2147483648
 returns-then-b-lt2147483648 c =

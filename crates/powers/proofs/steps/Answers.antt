@@ -1,6 +1,6 @@
 -- `powers::steps` meets its contract: a product that is exact, a shift that cuts off, or nothing. Assumes nothing.
 use Rattle.std.proofs.Common.{◌≡◌, ℕ, ◌+◌, ◌-◌, ◌*◌, ◌/◌, ◌%◌, ◌^◌, ◌<◌, ◌≤◌, sym, ap, ◌∙◌, le_trans, lt_of_le_of_lt, mod-eq_of_lt, mul-le-mul, one-mul, div-le_self, arith, pow_mono}
-use Rattle.powers.proofs.Taken.{steps_low, steps-whole, steps_cut}
+use Rattle.powers.proofs.Taken.{steps_low, steps_whole, steps_cut}
 use Rattle.powers.proofs.steps.Goals as goal
 
 -- the power of two fits a word of 32 bits, and the product is below 2 ^ 39
@@ -21,7 +21,7 @@ overflow_mul-result c = omega (arith, product c.args.a c.requires c.if-e-ge118.t
 pub returns-then-e-ge118 : goal.returns-then-e-ge118
 returns-then-e-ge118 c =
     let a = c.args.a in
-    (ap (λ (n : ℕ). (a % 8388608 + 8388608) * n) (unit (a / 8388608 - 118) (omega arith)).0 ∙ sym (steps-whole a c.if-e-ge118.true), product a c.requires c.if-e-ge118.true)
+    (ap (λ (n : ℕ). (a % 8388608 + 8388608) * n) (unit (a / 8388608 - 118) (omega arith)).0 ∙ sym (steps_whole a c.if-e-ge118.true), product a c.requires c.if-e-ge118.true)
 
 -- a quotient of 24 digits is small
 small : (m d : ℕ) → m ≤ 16777216 → m / d ≤ 2 ^ 39

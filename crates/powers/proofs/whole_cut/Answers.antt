@@ -4,7 +4,7 @@ use lib.Ieee.{binary32, to_bits}
 use Rattle.units.proofs.Naturals.{le-or-lt}
 use Rattle.fixed.proofs.Take.{no_nan}
 use Rattle.powers.specs.Value.{steps_of, cut_of}
-use Rattle.powers.proofs.Taken.{pattern_small, steps-whole, cut_plus, cut_minus}
+use Rattle.powers.proofs.Taken.{pattern_small, steps_whole, cut_plus, cut_minus}
 use Rattle.powers.proofs.whole_cut.Goals.{Start}
 use Rattle.powers.proofs.whole_cut.Goals as goal
 
@@ -47,7 +47,7 @@ module _ (c : Start) where
 
   -- the digits at their place are the steps
   placed : m * 2 ^ s ≡ steps_of (b % 2147483648)
-  placed = sym (steps-whole (b % 2147483648) (let l = c.requires.1 in omega arith) ∙ ap (λ (n : ℕ). (n + 8388608) * 2 ^ s) same)
+  placed = sym (steps_whole (b % 2147483648) (let l = c.requires.1 in omega arith) ∙ ap (λ (n : ℕ). (n + 8388608) * 2 ^ s) same)
     where
       same : b % 2147483648 % 8388608 ≡ b % 8388608
       same = omega arith

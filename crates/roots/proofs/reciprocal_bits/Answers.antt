@@ -1,7 +1,7 @@
 -- `roots::reciprocal_bits` meets its contract: its pattern is the value function's. Assumes nothing.
 use Rattle.std.proofs.Common.{ℕ, ◌+◌, ◌*◌, ◌<◌, sym, subst, arith}
 use Rattle.roots.specs.Value.{IsNearRecip, turned}
-use Rattle.roots.proofs.ReciprocalRoot.{evened, word-least, word-most, word_evened, pattern_in, rsqrt_bits_lem}
+use Rattle.roots.proofs.ReciprocalRoot.{evened, word_least, word_most, word_evened, pattern_in, rsqrt_bits_lem}
 use Rattle.roots.proofs.reciprocal_bits.Goals.{After-settle_reciprocal-h}
 use Rattle.roots.proofs.reciprocal_bits.Goals as goal
 
@@ -9,7 +9,7 @@ pub settle_reciprocal-h-requires : goal.settle_reciprocal-h-requires
 settle_reciprocal-h-requires c =
     let e = c.apart-p.result.e in
     let a = c.apart-p.ensures in
-    (a.least, a.digits, word-least e, word-most e, c.reciprocal.ensures)
+    (a.least, a.digits, word_least e, word_most e, c.reciprocal.ensures)
 
 -- the digits that were settled
 settled : (c : After-settle_reciprocal-h) → IsNearRecip (evened c.apart-p.result.e) c.apart-p.result.m c.settle_reciprocal-h.result

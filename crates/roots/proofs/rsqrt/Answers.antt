@@ -2,7 +2,7 @@
 use Rattle.std.proofs.Common.{T, sym, subst, not-le_of_lt, arith}
 use Rattle.units.specs.Units.{Positive}
 use Rattle.fixed.proofs.Take.{equal_to_itself, no_number}
-use Rattle.roots.proofs.Range.{positive, positive-below, positive-above}
+use Rattle.roots.proofs.Range.{positive, positive_below, positive_above}
 use Rattle.roots.proofs.ReciprocalRoot.{success, refusal}
 use Rattle.roots.proofs.rsqrt.Goals.{Then-b-lt2139095040, else-b-gt0-via-then-b-gt0+else-b-lt2139095040, else-b-gt0-via-else-b-gt0}
 use Rattle.roots.proofs.rsqrt.Goals as goal
@@ -28,6 +28,6 @@ pub returns : goal.returns
 returns c =
     let x = c.args.x in
     refusal x (λ p. elim c.else-b-gt0.branch [
-      | else-b-gt0-via-then-b-gt0+else-b-lt2139095040 w ↦ not-le_of_lt (positive-below x p) w.if-b-lt2139095040.false
-      | else-b-gt0-via-else-b-gt0 w ↦ not-le_of_lt (positive-above x p) w.if-b-gt0.false
+      | else-b-gt0-via-then-b-gt0+else-b-lt2139095040 w ↦ not-le_of_lt (positive_below x p) w.if-b-lt2139095040.false
+      | else-b-gt0-via-else-b-gt0 w ↦ not-le_of_lt (positive_above x p) w.if-b-gt0.false
     ])

@@ -3,8 +3,8 @@ use Rattle.std.proofs.Common.{T, sym, subst, not-le_of_lt, arith}
 use lib.Ieee.{binary32, fits}
 use Rattle.units.specs.Units.{Positive}
 use Rattle.fixed.proofs.Take.{equal_to_itself, no_number}
-use Rattle.roots.proofs.Range.{zero_is, not-zero, positive, positive-below}
-use Rattle.roots.proofs.SquareRoot.{above_zero, success-zero, success, refusal}
+use Rattle.roots.proofs.Range.{zero_is, not-zero, positive, positive_below}
+use Rattle.roots.proofs.SquareRoot.{above_zero, success_zero, success, refusal}
 use Rattle.roots.proofs.sqrt.Goals.{Start, Joined-wrapping_sub_u32-ge2130706432, then-wrapping_sub_u32-ge2130706432+else-b-eq0+else-b+else-b-ge8388608, else-wrapping_sub_u32-ge2130706432}
 use Rattle.roots.proofs.sqrt.Goals as goal
 
@@ -20,17 +20,17 @@ float_to_bits-b c = equal_to_itself c.args.x c.if-x.false
 pub returns-then-b-eq0 : goal.returns-then-b-eq0
 returns-then-b-eq0 c =
     let (n, z) = zero_is c.args.x (in-format (goal.at.returns-then-b-eq0 c).Start) (omega (arith, c.if-b-eq0.true)) in
-    success-zero c.args.x n z (sym c.if-b-eq0.true)
+    success_zero c.args.x n z (sym c.if-b-eq0.true)
 
 pub returns-then-b : goal.returns-then-b
 returns-then-b c =
     let (n, z) = zero_is c.args.x (in-format (goal.at.returns-then-b c).Start) (omega (arith, c.if-b.true)) in
-    success-zero c.args.x n z (sym c.if-b.true)
+    success_zero c.args.x n z (sym c.if-b.true)
 
 pub returns-then-b-ge8388608 : goal.returns-then-b-ge8388608
 returns-then-b-ge8388608 c =
     let x = c.args.x in
-    refusal x (λ a. not-le_of_lt (positive-below x (above_zero x a (not-zero x a.number (omega arith)))) (omega arith))
+    refusal x (λ a. not-le_of_lt (positive_below x (above_zero x a (not-zero x a.number (omega arith)))) (omega arith))
 
 -- the pattern is that of a normal float above zero, or of a subnormal one
 accepted : (c : Joined-wrapping_sub_u32-ge2130706432) → Positive c.args.x

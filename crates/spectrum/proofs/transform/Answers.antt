@@ -8,7 +8,7 @@ use lib.ListN.{length}
 use lib.Ieee.{Float}
 use Rattle.spectrum.specs.Transform.{at, Lengths, Element}
 use Rattle.spectrum.specs.Floats.{Largest}
-use Rattle.spectrum.proofs.Frame.{below_element, size_below, small-words, holdable}
+use Rattle.spectrum.proofs.Frame.{below_element, size_below, small_words, holdable}
 use Rattle.spectrum.proofs.Promise.{refused_length, refused_element, too_large, promised}
 use Rattle.spectrum.proofs.transform.Goals.{After-scale-e, Else-im-ne65}
 use Rattle.spectrum.proofs.transform.Goals as goal
@@ -70,7 +70,7 @@ fill-requires c =
       apart = refl;
       start = omega arith;
       as_many = c.load_all.ensures.as_many;
-      small = small-words (input a) c.largest-m.result c.scale-e.result (elements a) (largest-of a) c.scale-e.ensures
+      small = small_words (input a) c.largest-m.result c.scale-e.result (elements a) (largest-of a) c.scale-e.ensures
           c.load_all.new.y c.load_all.ensures;
     }
 

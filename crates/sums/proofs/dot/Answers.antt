@@ -4,7 +4,7 @@ use mathlib.Core.Bool.{Bool, true, false}
 use native.Mathlib.Omega.{arith}
 use lib.Dec.{T}
 use lib.Ieee.Scale.{finite}
-use Rattle.units.proofs.Size.{finite-real}
+use Rattle.units.proofs.Size.{finite_real}
 use Rattle.sums.specs.Dot.{Lengths, all_finite, dot_of}
 use Rattle.sums.proofs.Lists.{Fits}
 use Rattle.sums.proofs.DotProduct.{success, refused_lengths, refused_element, refused_overflow}
@@ -36,7 +36,7 @@ passed : (c : Then-is_finite) → T (finite c.in_pairs-s.result)
 passed c = subst T (sym c.if-is_finite.true ∙ c.is_finite.ensures) tt
 
 pub float_to_bits-out : goal.float_to_bits-out
-float_to_bits-out c = finite-real c.in_pairs-s.result (passed (goal.at.float_to_bits-out c).Then-is_finite)
+float_to_bits-out c = finite_real c.in_pairs-s.result (passed (goal.at.float_to_bits-out c).Then-is_finite)
 
 pub returns-then-is_finite : goal.returns-then-is_finite
 returns-then-is_finite c =

@@ -5,7 +5,7 @@ use lib.Dec.{T}
 use lib.Ieee.{binary32, nan_bits, of_bits, le}
 use lib.Ieee.Scale.{finite}
 use Rattle.units.specs.Units.{Number}
-use Rattle.units.proofs.Ranges.{finite-within, not_finite, not-finite-below}
+use Rattle.units.proofs.Ranges.{finite_within, not_finite, not_finite_below}
 use Rattle.sums.proofs.is_finite.Goals.{Start}
 use Rattle.sums.proofs.is_finite.Goals as goal
 
@@ -30,9 +30,9 @@ same false false h g = refl
 pub returns-then-x : goal.returns-then-x
 returns-then-x c =
     let x = c.args.x in
-    same (le x (of_bits binary32 2139095039)) (finite x) (λ f. not_finite x (number (goal.at.returns-then-x c).Start f)) (finite-within x c.if-x.true)
+    same (le x (of_bits binary32 2139095039)) (finite x) (λ f. not_finite x (number (goal.at.returns-then-x c).Start f)) (finite_within x c.if-x.true)
 
 pub returns-else-x : goal.returns-else-x
 returns-else-x c =
     let x = c.args.x in
-    same (le (of_bits binary32 4286578687) x) (finite x) (λ f. not-finite-below x (number (goal.at.returns-else-x c).Start f)) (λ e. absurd (true≢false (sym e ∙ c.if-x.false)))
+    same (le (of_bits binary32 4286578687) x) (finite x) (λ f. not_finite_below x (number (goal.at.returns-else-x c).Start f)) (λ e. absurd (true≢false (sym e ∙ c.if-x.false)))

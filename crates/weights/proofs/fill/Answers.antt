@@ -14,8 +14,8 @@ use Rattle.weights.specs.Lists.{at}
 use Rattle.weights.specs.Softmax.{Element}
 use Rattle.weights.specs.Value.{power_at, unit_bits, weight_bits}
 use Rattle.weights.specs.Weight.{source_of}
-use Rattle.weights.proofs.Range.{power_accepts, exponent-high}
-use Rattle.weights.proofs.Families.{is-map, member}
+use Rattle.weights.proofs.Range.{power_accepts, exponent_high}
+use Rattle.weights.proofs.Families.{is_map, member}
 use Rattle.weights.proofs.Source.{given_at, sized_still, still_at}
 use Rattle.weights.proofs.fill.Goals.{After-argument-a, After-digits, After-element, After-exponent, After-weight, In-loop-k, Start}
 use Rattle.weights.proofs.fill.Goals as goal
@@ -95,7 +95,7 @@ weight-requires c =
     let v = goal.at.weight-requires c in
     let e = element v.After-element in
     rw (exponent v.After-exponent e, digits v.After-digits e) (
-      exponent-high _ (accepted v.In-loop-k) base,
+      exponent_high _ (accepted v.In-loop-k) base,
       c.requires.3,
       le_trans (mul-le-mul_right c.args.r (member (power_at base xs) (length xs) c.loop-k.k (within v.In-loop-k))) c.requires.4,
     )
@@ -139,5 +139,5 @@ pub returns : goal.returns
 returns c =
     let inv = c.loop-k.invariant in
     let xs = source_of c.args.x.now c.args.p.now in
-    is-map (weight_bits c.args.natural c.args.r c.args.c) nan 0 xs c.loop-k.p (inv.1 ∙ sym c.requires.0)
+    is_map (weight_bits c.args.natural c.args.r c.args.c) nan 0 xs c.loop-k.p (inv.1 ∙ sym c.requires.0)
     (λ i h. inv.2 i (omega (arith, c.requires.0, c.loop-k-test.false)))

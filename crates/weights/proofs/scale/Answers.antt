@@ -13,7 +13,7 @@ use Rattle.weights.specs.Softmax.{Element}
 use Rattle.weights.specs.Value.{pattern_of, top_of, top_exponent, share_at, total_of, inverse_of, factor_of, places_of}
 use Rattle.weights.specs.Weight.{source_of}
 use Rattle.weights.proofs.Range.{power_accepts, not_nan}
-use Rattle.weights.proofs.Scaled.{top_element, top-low, top-most, many}
+use Rattle.weights.proofs.Scaled.{top_element, top_low, top_most, many}
 use Rattle.weights.proofs.scale.Goals.{After-exponent-e, After-total, After-unlocked-top, Start}
 use Rattle.weights.proofs.scale.Goals as goal
 
@@ -55,7 +55,7 @@ total-requires c =
     let v = goal.at.total-requires c in
     let e = exponent v.After-exponent-e (top v.After-unlocked-top) in
     let xs = source_of c.args.x.now c.args.p.now in
-    let most = top-most c.args.natural xs c.requires.3 (some _ _ c.requires.0 c.requires.1) in
+    let most = top_most c.args.natural xs c.requires.3 (some _ _ c.requires.0 c.requires.1) in
     (c.requires.0, c.requires.2, c.requires.3, λ i h. le_trans (most i (lt_of_lt_of_le h (le_of_eq (sym c.requires.0)))) (le_of_eq (sym e)))
 
 pub reciprocal-requires : goal.reciprocal-requires
@@ -65,7 +65,7 @@ reciprocal-requires c =
     let xs = source_of c.args.x.now c.args.p.now in
     let one = some _ _ c.requires.0 c.requires.1 in (
       le_trans (many c.args.natural xs c.requires.3 one) (le_of_eq (sym (sum_is v.After-total e))),
-      le_trans (top-low c.args.natural xs c.requires.3 one) (le_of_eq (sym e)),
+      le_trans (top_low c.args.natural xs c.requires.3 one) (le_of_eq (sym e)),
     )
 
 pub shape_of-p : goal.shape_of-p

@@ -5,7 +5,7 @@ use native.Mathlib.Nat.{le_trans, le_of_lt}
 use native.Mathlib.Omega.{arith}
 use mir.Syntax.{w32, w64}
 use mir.Val.{Fits}
-use Rattle.weights.proofs.Rounding.{Placed, placed, normal, bits-more, bits-few, few_units, few-none}
+use Rattle.weights.proofs.Rounding.{Placed, placed, normal, bits_more, bits_few, few_units, few_none}
 use Rattle.weights.proofs.weight.Goals.{Start}
 use Rattle.weights.proofs.weight.Goals as goal
 
@@ -60,10 +60,10 @@ pub overflow_cast-result-then-c-e-lt64 : goal.overflow_cast-result-then-c-e-lt64
 overflow_cast-result-then-c-e-lt64 c = short (few_units _ _ _ (product c.before.before) c.if-c-e.false)
 
 pub returns-then-c-e : goal.returns-then-c-e
-returns-then-c-e c = c.nearest_bits.ensures ∙ sym (bits-more _ _ _ (product c.before.before) c.if-c-e.true)
+returns-then-c-e c = c.nearest_bits.ensures ∙ sym (bits_more _ _ _ (product c.before.before) c.if-c-e.true)
 
 pub returns-then-c-e-lt64 : goal.returns-then-c-e-lt64
-returns-then-c-e-lt64 c = sym (bits-few _ _ _ (product c.before.before) c.if-c-e.false)
+returns-then-c-e-lt64 c = sym (bits_few _ _ _ (product c.before.before) c.if-c-e.false)
 
 pub returns-else-c-e-lt64 : goal.returns-else-c-e-lt64
-returns-else-c-e-lt64 c = let p = product c.before.before in sym (few-none _ _ _ p c.if-c-e.false c.if-c-e-lt64.false) ∙ sym (bits-few _ _ _ p c.if-c-e.false)
+returns-else-c-e-lt64 c = let p = product c.before.before in sym (few_none _ _ _ p c.if-c-e.false c.if-c-e-lt64.false) ∙ sym (bits_few _ _ _ p c.if-c-e.false)

@@ -17,7 +17,7 @@ arm {a} {b} {c} {d} k i q r t =
       room_a = ltb→lt a _ (and_l (below a) (below b && (below c && below d)) t);
       room_b = ltb→lt b _ (and_l (below b) (below c && below d) u);
       room_c = ltb→lt c _ (and_l (below c) (below d) v);
-      room-d = ltb→lt d _ (and_r (below c) (below d) v);
+      room_d = ltb→lt d _ (and_r (below c) (below d) v);
     }
 
 pub returns-in-0 : goal.returns-in-0

@@ -1,12 +1,12 @@
 -- `loudness::fitted::fit` meets its promise. Assumes nothing.
 use Rattle.loudness.specs.Map.{Channel}
 use Rattle.loudness.proofs.Promise.{segment}
-use Rattle.loudness.proofs.Stepping.{other-number, no_channel, fitted}
+use Rattle.loudness.proofs.Stepping.{other_number, no_channel, fitted}
 use Rattle.loudness.proofs.fitted.fit.Goals.{Then-is_channel}
 use Rattle.loudness.proofs.fitted.fit.Goals as goal
 
 pub returns-then-w-ne6 : goal.returns-then-w-ne6
-returns-then-w-ne6 c = other-number c.if-w-ne6.true
+returns-then-w-ne6 c = other_number c.if-w-ne6.true
 
 channel : (c : Then-is_channel) → let s = c.args in Channel s.top s.b s.m s.t s.c
 channel c = c.is_channel.ensures.if_true c.if-is_channel.true

@@ -2,17 +2,17 @@
 use Rattle.std.proofs.Common.{◌≡◌, ℕ, ◌-◌, ◌*◌, ◌%◌, ◌^◌, ◌≤◌, sym, ap, ◌∙◌, ap₂, le_trans, le_of_eq, lt_of_le_of_lt, mod-eq_of_lt, one-mul, arith, lit<, pow_mono}
 use Rattle.loudness.specs.Value.{rise_of, places_of, word_of}
 use Rattle.loudness.specs.Words.{span_of, factor_of}
-use Rattle.loudness.proofs.Known.{Sound, low-sound, high-sound, accepted, rises}
+use Rattle.loudness.proofs.Known.{Sound, low_sound, high_sound, accepted, rises}
 use Rattle.loudness.proofs.Words.{places, full}
 use Rattle.loudness.proofs.Growth.{b≤m, few, span_long, span_few}
 use Rattle.loudness.proofs.fitted.line_of.Goals.{After-fixed_log2, Start}
 use Rattle.loudness.proofs.fitted.line_of.Goals as goal
 
 low : (c : Start) → Sound c.args.b
-low c = low-sound c.requires.levels
+low c = low_sound c.requires.levels
 
 high : (c : Start) → Sound c.args.m
-high c = high-sound c.requires.levels
+high c = high_sound c.requires.levels
 
 pub fixed_log2-low-requires : goal.fixed_log2-low-requires
 fixed_log2-low-requires c = accepted (low c)

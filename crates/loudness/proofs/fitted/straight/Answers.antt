@@ -7,7 +7,7 @@ use Rattle.logs.specs.Value.{fixed_bits}
 use Rattle.loudness.specs.Map.{Envelope}
 use Rattle.loudness.specs.Words.{Passes, rise_to, steps_in, step_in}
 use Rattle.loudness.proofs.Sizes.{envelope}
-use Rattle.loudness.proofs.Fitting.{steps-most}
+use Rattle.loudness.proofs.Fitting.{steps_most}
 use Rattle.loudness.proofs.fitted.straight.Goals.{Then-p-le1065353216, Then-passes}
 use Rattle.loudness.proofs.fitted.straight.Goals as goal
 
@@ -29,7 +29,7 @@ good c =
     (le-leb _ _ (rw c.size_bits-p.ensures at c.if-p-le1065353216.true))
 
 pub overflow_add-out : goal.overflow_add-out
-overflow_add-out c = omega (arith, c.threshold.ensures, c.steps_in.ensures, steps-most c.args.w.now c.rise.result)
+overflow_add-out c = omega (arith, c.threshold.ensures, c.steps_in.ensures, steps_most c.args.w.now c.rise.result)
 
 pub returns-then-p-le1065353216 : goal.returns-then-p-le1065353216
 unfolding step_in

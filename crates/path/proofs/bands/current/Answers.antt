@@ -9,7 +9,7 @@ use Rattle.loudness.proofs.Promise.{segment}
 use Rattle.path.specs.Path.{quietest, loudest, threshold, comfort}
 use Rattle.path.specs.Steps.{envelope_of}
 use Rattle.path.specs.Ready.{current_at}
-use Rattle.path.proofs.Channels.{readable, loud-bits, quiet-bits}
+use Rattle.path.proofs.Channels.{readable, loud_bits, quiet_bits}
 use Rattle.path.proofs.Envelopes.{envelope}
 use Rattle.path.proofs.bands.current.Goals as goal
 
@@ -17,10 +17,10 @@ pub sum-requires : goal.sum-requires
 sum-requires c = (c.requires.1.band.order, c.requires.1.band.bins, c.requires.0)
 
 pub float_from_bits-bands : goal.float_from_bits-bands
-float_from_bits-bands c = let g = c.type_inv.bands in readable _ (quiet-bits (get_or c.args.bands.now (6 * c.args.i + 2) 0) (get_or c.args.bands.now (6 * c.args.i + 3) 0) (omega (arith, g (6 * c.args.i + 2))) (omega (arith, g (6 * c.args.i + 3))) c.requires.1.band.channel.levels)
+float_from_bits-bands c = let g = c.type_inv.bands in readable _ (quiet_bits (get_or c.args.bands.now (6 * c.args.i + 2) 0) (get_or c.args.bands.now (6 * c.args.i + 3) 0) (omega (arith, g (6 * c.args.i + 2))) (omega (arith, g (6 * c.args.i + 3))) c.requires.1.band.channel.levels)
 
 pub float_from_bits-bands-2 : goal.float_from_bits-bands-2
-float_from_bits-bands-2 c = let g = c.type_inv.bands in readable _ (loud-bits (get_or c.args.bands.now (6 * c.args.i + 2) 0) (get_or c.args.bands.now (6 * c.args.i + 3) 0) (omega (arith, g (6 * c.args.i + 2))) (omega (arith, g (6 * c.args.i + 3))) c.requires.1.band.channel.levels)
+float_from_bits-bands-2 c = let g = c.type_inv.bands in readable _ (loud_bits (get_or c.args.bands.now (6 * c.args.i + 2) 0) (get_or c.args.bands.now (6 * c.args.i + 3) 0) (omega (arith, g (6 * c.args.i + 2))) (omega (arith, g (6 * c.args.i + 3))) c.requires.1.band.channel.levels)
 
 pub segment_step-requires : goal.segment_step-requires
 segment_step-requires c = (segment c.requires.1.band.channel, subst Envelope (sym c.envelope-a.ensures) (envelope _))

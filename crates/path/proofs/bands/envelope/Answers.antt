@@ -5,14 +5,14 @@ use Prim.Native.Nat.{ℕ}
 use lib.Dec.{T, lit≤}
 use lib.Ieee.{binary32, of_bits, nan_bits}
 use Rattle.path.proofs.Channels.{readable}
-use Rattle.path.proofs.Envelopes.{normal, full-bits, part-bits, part_readable}
+use Rattle.path.proofs.Envelopes.{normal, full_bits, part_bits, part_readable}
 use Rattle.path.proofs.bands.envelope.Goals as goal
 
 pub float_from_bits-result : goal.float_from_bits-result
 float_from_bits-result c = readable 1065353216 (lit≤ tt)
 
 pub returns-then-s-ge72057594037927936 : goal.returns-then-s-ge72057594037927936
-returns-then-s-ge72057594037927936 c = ap (of_bits binary32) (full-bits c.args.s c.if-s-ge72057594037927936.true)
+returns-then-s-ge72057594037927936 c = ap (of_bits binary32) (full_bits c.args.s c.if-s-ge72057594037927936.true)
 
 pub nearest_bits-requires : goal.nearest_bits-requires
 nearest_bits-requires c = normal c.args.s
@@ -21,4 +21,4 @@ pub float_from_bits-result-2 : goal.float_from_bits-result-2
 float_from_bits-result-2 c = subst (λ (b : ℕ). T (not (nan_bits binary32 b))) (sym c.nearest_bits.ensures) (part_readable c.args.s c.if-s-ge72057594037927936.false)
 
 pub returns : goal.returns
-returns c = ap (of_bits binary32) (c.nearest_bits.ensures ∙ part-bits c.args.s c.if-s-ge72057594037927936.false)
+returns c = ap (of_bits binary32) (c.nearest_bits.ensures ∙ part_bits c.args.s c.if-s-ge72057594037927936.false)

@@ -4,12 +4,12 @@ use Prim.Native.Nat.{ℕ, suc, ◌+◌, ◌-◌, ◌*◌, ◌^◌, ◌≤◌, �
 use native.Mathlib.Omega.{arith}
 use lib.ListN.{get_or}
 use Rattle.spectrum.specs.Transform.{sum_of}
-use Rattle.path.proofs.Adding.{sum_more, sum-none}
+use Rattle.path.proofs.Adding.{sum_more, sum_none}
 use Rattle.path.proofs.bands.sum.Goals.{In-loop-k}
 use Rattle.path.proofs.bands.sum.Goals as goal
 
 pub loop-k-init : goal.loop-k-init
-loop-k-init c = (omega arith, omega (arith, c.requires.0), sym (sum-none (λ k. get_or c.args.y.now k 0) c.args.low), omega arith)
+loop-k-init c = (omega arith, omega (arith, c.requires.0), sym (sum_none (λ k. get_or c.args.y.now k 0) c.args.low), omega arith)
 
 pub offset_bounds-y-k : goal.offset_bounds-y-k
 offset_bounds-y-k c = omega (arith, c.loop-k-test.true)

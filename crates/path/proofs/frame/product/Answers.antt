@@ -8,7 +8,7 @@ use Rattle.units.specs.Units.{negative}
 use Rattle.spectrum.specs.Table.{unit}
 use Rattle.spectrum.specs.Floats.{size_in}
 use Rattle.path.specs.Steps.{product_size, product_word}
-use Rattle.path.proofs.Products.{product-size, product-most, clear, set, word-is}
+use Rattle.path.proofs.Products.{product-size, product_most, clear, set, word_is}
 use Rattle.path.proofs.frame.product.Goals.{After-product_size-y}
 use Rattle.path.proofs.frame.product.Goals as goal
 
@@ -27,12 +27,12 @@ sized c =
     c.product_size-y.ensures ∙ ap₂ (λ a b. size_in (a % 2147483648) * size_in (b % 2147483648) * 2 ^ 53 / 2 ^ 298) c.number_bits-a.ensures c.number_bits-b.ensures ∙ product-size c.args.x c.args.w c.requires.0 c.requires.1
 
 least : (c : After-product_size-y) → c.product_size-y.result ≤ 2 ^ 53
-least c = le_trans (le_of_eq (sized c)) (product-most c.args.x c.args.w c.requires.0 c.requires.1)
+least c = le_trans (le_of_eq (sized c)) (product_most c.args.x c.args.w c.requires.0 c.requires.1)
 
 -- the word, by the signs
 worded : (c : After-product_size-y) (a b : Bool) → negative c.args.x ≡ a → negative c.args.w ≡ b
     → cond a (cond b (unit + c.product_size-y.result) (unit - c.product_size-y.result)) (cond b (unit - c.product_size-y.result) (unit + c.product_size-y.result)) ≡ product_word c.args.x c.args.w
-worded c a b e f = ap (λ (q : ℕ). cond a (cond b (unit + q) (unit - q)) (cond b (unit - q) (unit + q))) (sized c) ∙ sym (word-is c.args.x c.args.w a b e f)
+worded c a b e f = ap (λ (q : ℕ). cond a (cond b (unit + q) (unit - q)) (cond b (unit - q) (unit + q))) (sized c) ∙ sym (word_is c.args.x c.args.w a b e f)
 
 x-clear : (c : After-product_size-y) → c.number_bits-a.result < 2147483648 → negative c.args.x ≡ false
 x-clear c l = clear c.args.x c.requires.0.number (rw c.number_bits-a.ensures at l)

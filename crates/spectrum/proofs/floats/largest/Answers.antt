@@ -3,7 +3,7 @@ use native.Mathlib.Omega.{arith}
 use mathlib.Core.Path.{◌≡◌, ap, subst}
 use native.Mathlib.Nat.{le_antisymm}
 use borrow.Author.Rules.{scaled_Fits}
-use Rattle.spectrum.proofs.Loads.{largest-none, largest_new, largest_old}
+use Rattle.spectrum.proofs.Loads.{largest_none, largest_new, largest_old}
 use Prim.Native.Nat.{ℕ, ◌+◌, ◌%◌}
 use lib.ListN.{length}
 use Rattle.spectrum.specs.Transform.{at}
@@ -12,7 +12,7 @@ use Rattle.spectrum.proofs.floats.largest.Goals.{then-m-b, else-m-b}
 use Rattle.spectrum.proofs.floats.largest.Goals as goal
 
 pub loop-i-init : goal.loop-i-init
-loop-i-init c = (omega arith, largest-none c.args.x.now)
+loop-i-init c = (omega arith, largest_none c.args.x.now)
 
 pub offset_bounds-x-i : goal.offset_bounds-x-i
 offset_bounds-x-i c = scaled_Fits _ (length c.args.x.now) 4 c.loop-i-test.true c.well_formed.0.1

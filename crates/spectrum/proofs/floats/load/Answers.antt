@@ -8,7 +8,7 @@ use Rattle.units.specs.Units.{mag, Number}
 use Rattle.spectrum.specs.Table.{unit}
 use Rattle.spectrum.specs.Floats.{size_in}
 use Rattle.spectrum.proofs.Sizes.{size_of}
-use Rattle.spectrum.proofs.Loads.{quotient_small, word-plus, word-minus}
+use Rattle.spectrum.proofs.Loads.{quotient_small, word_plus, word_minus}
 use Rattle.spectrum.proofs.floats.load.Goals.{After-scaled-y}
 use Rattle.spectrum.proofs.floats.load.Goals as goal
 
@@ -40,9 +40,9 @@ overflow_sub-result c = omega (arith, least (goal.at.overflow_sub-result c).Afte
 pub returns-then-b-lt2147483648 : goal.returns-then-b-lt2147483648
 returns-then-b-lt2147483648 c =
     ap (λ (n : ℕ). unit + n) (units (goal.at.returns-then-b-lt2147483648 c).After-scaled-y)
-    ∙ word-plus c.args.x c.requires.0 c.args.e (rw c.number_bits-b.ensures at c.if-b-lt2147483648.true)
+    ∙ word_plus c.args.x c.requires.0 c.args.e (rw c.number_bits-b.ensures at c.if-b-lt2147483648.true)
 
 pub returns-else-b-lt2147483648 : goal.returns-else-b-lt2147483648
 returns-else-b-lt2147483648 c =
     ap (λ (n : ℕ). unit - n) (units (goal.at.returns-else-b-lt2147483648 c).After-scaled-y)
-    ∙ word-minus c.args.x c.requires.0 c.args.e (rw c.number_bits-b.ensures at c.if-b-lt2147483648.false)
+    ∙ word_minus c.args.x c.requires.0 c.args.e (rw c.number_bits-b.ensures at c.if-b-lt2147483648.false)

@@ -5,21 +5,21 @@ use native.Mathlib.Nat.{div-le_self, mod-eq_of_lt, lt_of_lt_of_le}
 use native.Mathlib.Omega.{arith}
 use lib.Pow.{pow_mono}
 use lib.Count.{leading_le}
-use Rattle.spectrum.proofs.Outputs.{at-least_17, normal, bits-normal, bits_below, bits_cut, bits-whole, cut_most, whole-most, below_76}
+use Rattle.spectrum.proofs.Outputs.{at_least_17, normal, bits_normal, bits_below, bits_cut, bits_whole, cut_most, whole_most, below_76}
 use Rattle.spectrum.proofs.floats.size_bits.Goals as goal
 
 pub overflow_add-n : goal.overflow_add-n
 overflow_add-n c = omega (arith, leading_le 64 c.args.n)
 
 pub overflow_sub-e : goal.overflow_sub-e
-overflow_sub-e c = at-least_17 c.args.n c.args.e c.requires.0 c.requires.1 c.if-n-e.true
+overflow_sub-e c = at_least_17 c.args.n c.args.e c.requires.0 c.requires.1 c.if-n-e.true
 
 pub nearest_bits-requires : goal.nearest_bits-requires
 nearest_bits-requires c = normal c.args.n c.args.e c.requires.0 c.requires.1 c.if-n-e.true
 
 pub returns-then-n-e : goal.returns-then-n-e
 returns-then-n-e c =
-    let b = sym (bits-normal c.args.n c.args.e c.requires.0 c.requires.1 c.if-n-e.true) in
+    let b = sym (bits_normal c.args.n c.args.e c.requires.0 c.requires.1 c.if-n-e.true) in
     let e = c.nearest_bits.ensures ∙ b in
     (e, rw e (bits_below c.args.n c.args.e c.requires.0 c.requires.1))
 
@@ -39,11 +39,11 @@ overflow_shl-result c = omega (arith, below_76 c.args.n c.args.e c.requires.0 c.
 
 pub overflow_cast-result-3 : goal.overflow_cast-result-3
 overflow_cast-result-3 c =
-    let l = whole-most c.args.n c.args.e c.requires.0 c.requires.1 c.if-n-e.false c.if-e-lt53.false in
+    let l = whole_most c.args.n c.args.e c.requires.0 c.requires.1 c.if-n-e.false c.if-e-lt53.false in
     rw (mod-eq_of_lt (lt_of_lt_of_le l (pow_mono {i = 23} {j = 64} (omega arith)))) (record { fits = lt_of_lt_of_le l (pow_mono {i = 23} {j = 32} (omega arith)) })
 
 pub returns : goal.returns
 returns c =
-    let l = whole-most c.args.n c.args.e c.requires.0 c.requires.1 c.if-n-e.false c.if-e-lt53.false in
-    let e = mod-eq_of_lt (lt_of_lt_of_le l (pow_mono {i = 23} {j = 64} (omega arith))) ∙ sym (bits-whole c.args.n c.args.e c.requires.0 c.requires.1 c.if-n-e.false c.if-e-lt53.false) in
+    let l = whole_most c.args.n c.args.e c.requires.0 c.requires.1 c.if-n-e.false c.if-e-lt53.false in
+    let e = mod-eq_of_lt (lt_of_lt_of_le l (pow_mono {i = 23} {j = 64} (omega arith))) ∙ sym (bits_whole c.args.n c.args.e c.requires.0 c.requires.1 c.if-n-e.false c.if-e-lt53.false) in
     (e, rw e (bits_below c.args.n c.args.e c.requires.0 c.requires.1))

@@ -6,7 +6,7 @@ use lib.ListN.{length}
 use lib.Pow.{pow_pos}
 use lib.Seq.{length-take-le}
 use Rattle.spectrum.specs.Words.{Fillable}
-use Rattle.spectrum.proofs.Blocks.{half_fits, shorter, rest_shorter, rest_half, mid_length, fillable, leaf_filled, deeper, few, inside, some_words, around, four-times, all_inside, first-four, second-four, twice_length, first-length, second-length, first_half, second_half, both_filled, twice}
+use Rattle.spectrum.proofs.Blocks.{half_fits, shorter, rest_shorter, rest_half, mid_length, fillable, leaf_filled, deeper, few, inside, some_words, around, four_times, all_inside, first_four, second_four, twice_length, first_length, second_length, first_half, second_half, both_filled, twice}
 use Rattle.spectrum.proofs.words.+fill.Goals as goal
 
 pub returns-then-n-eq4 : goal.returns-then-n-eq4
@@ -45,11 +45,11 @@ combine-requires t c =
     let f = half_fits l in
     let n = twice_length l l₁ l₂ (length l / 2) f k₁ k₂ in
     let b = few (2 ^ d.s) c.args.st d.apart in
-    let first = first-four l l₁ l₂ (length l / 2) f k₁ k₂ (2 ^ d.s) d.size refl in
-    let second = second-four l l₁ l₂ (length l / 2) f k₁ k₂ (2 ^ d.s) d.size refl in (
+    let first = first_four l l₁ l₂ (length l / 2) f k₁ k₂ (2 ^ d.s) d.size refl in
+    let second = second_four l l₁ l₂ (length l / 2) f k₁ k₂ (2 ^ d.s) d.size refl in (
       some_words l (2 ^ d.s) d.size (pow_pos d.s),
       around l (2 ^ d.s) c.args.st d.size d.apart,
-      n ∙ four-times l (2 ^ d.s) d.size,
+      n ∙ four_times l (2 ^ d.s) d.size,
       all_inside l l₁ l₂ (length l / 2) f k₁ k₂ (2 ^ d.s) d.size
           (inside c.args.y.now c.args.off (2 * c.args.st) d.s l₁ c.requires.as_many c.requires.small d.apart b first c.fill.ensures)
           (inside c.args.y.now (c.args.off + c.args.st) (2 * c.args.st) d.s l₂ c.requires.as_many c.requires.small d.apart b second c.fill-2.ensures),
@@ -65,6 +65,6 @@ returns t c =
     let f = half_fits l in
     let n = c.combine.auto.r ∙ twice_length l l₁ l₂ (length l / 2) f k₁ k₂ in
     both_filled c.args.y.now c.args.off c.args.st (length l) l₁ l₂ (twice l l₁ l₂ (length l / 2) f k₁) c.combine.new.r
-    (length l / 2) (length l / 2 / 2) c.if-n-eq4.false refl refl (first-length l l₁ l₂ (length l / 2) f k₁)
-    (second-length l l₁ l₂ (length l / 2) f k₁ k₂) n (first_half l l₁ l₂ (length l / 2) f k₁ k₂)
+    (length l / 2) (length l / 2 / 2) c.if-n-eq4.false refl refl (first_length l l₁ l₂ (length l / 2) f k₁)
+    (second_length l l₁ l₂ (length l / 2) f k₁ k₂) n (first_half l l₁ l₂ (length l / 2) f k₁ k₂)
     (second_half l l₁ l₂ (length l / 2) f k₁ k₂) c.fill.ensures c.fill-2.ensures c.combine.ensures

@@ -5,8 +5,8 @@ use native.Mathlib.Omega.{arith}
 use Rattle.spectrum.specs.Table.{unit, entry}
 use Rattle.spectrum.specs.Words.{part, Butterfly}
 use Rattle.spectrum.proofs.Parts.{Product, made}
-use Rattle.spectrum.proofs.Entries.{row, entry-most}
-use Rattle.spectrum.proofs.Room.{Twice, real-room, imaginary-room, taken_away, one-room}
+use Rattle.spectrum.proofs.Entries.{row, entry_most}
+use Rattle.spectrum.proofs.Room.{Twice, real_room, imaginary_room, taken_away, one_room}
 use Rattle.spectrum.proofs.words.butterfly.Goals.{After-part-2, After-part-3, After-part-4}
 use Rattle.spectrum.proofs.words.butterfly.Goals as goal
 
@@ -17,26 +17,26 @@ first c = made c.part.ensures (row (omega arith) c.row-w.ensures).cosine
 second : (c : After-part-2) → Product c.args.oi (entry (32 - c.args.j)) c.part-2.result
 second c = made c.part-2.ensures (row (omega arith) c.row-w.ensures).sine
 
-cosine-most : (j : ℕ) → j < 32 → entry j ≤ unit
-cosine-most j l = entry-most j (omega arith)
+cosine_most : (j : ℕ) → j < 32 → entry j ≤ unit
+cosine_most j l = entry_most j (omega arith)
 
-sine-most : (j : ℕ) → entry (32 - j) ≤ unit
-sine-most j = entry-most (32 - j) (omega arith)
+sine_most : (j : ℕ) → entry (32 - j) ≤ unit
+sine_most j = entry_most (32 - j) (omega arith)
 
 pub overflow_add-t : goal.overflow_add-t
 overflow_add-t c =
     let r = (goal.at.overflow_add-t c).After-part-2 in
     omega (
       arith,
-      one-room _ _ _ (cosine-most c.args.j c.requires.1) c.requires.4 (first r),
-      one-room _ _ _ (sine-most c.args.j) c.requires.5 (second r),
+      one_room _ _ _ (cosine_most c.args.j c.requires.1) c.requires.4 (first r),
+      one_room _ _ _ (sine_most c.args.j) c.requires.5 (second r),
     )
 
 -- the real part of the product
 real : (c : After-part-2) → Twice (c.part.result + c.part-2.result + c.row-w.result.z)
 real c =
-    real-room (entry c.args.j) (entry (32 - c.args.j)) c.args.or c.args.oi (cosine-most c.args.j c.requires.1)
-    (sine-most c.args.j) c.requires.4 c.requires.5 _ _ _ (first c) (second c)
+    real_room (entry c.args.j) (entry (32 - c.args.j)) c.args.or c.args.oi (cosine_most c.args.j c.requires.1)
+    (sine_most c.args.j) c.requires.4 c.requires.5 _ _ _ (first c) (second c)
     (sums _ _ _ _ (row (omega arith) c.row-w.ensures).both)
   where
     sums : (p q z x : ℕ) → z + x ≡ 2 * unit → p + q + z + x ≡ p + q + 2 * unit
@@ -53,10 +53,10 @@ pub overflow_add-u : goal.overflow_add-u
 overflow_add-u c =
     omega (
       arith,
-      one-room _ _ _ (cosine-most c.args.j c.requires.1) c.requires.5 (third (goal.at.overflow_add-u c).After-part-3),
+      one_room _ _ _ (cosine_most c.args.j c.requires.1) c.requires.5 (third (goal.at.overflow_add-u c).After-part-3),
       (row (omega arith) c.row-w.ensures).other,
-      cosine-most c.args.j c.requires.1,
-      sine-most c.args.j,
+      cosine_most c.args.j c.requires.1,
+      sine_most c.args.j,
     )
 
 -- the third again, behind the fourth
@@ -72,8 +72,8 @@ enough c =
     omega (
       arith,
       (row (omega arith) c.row-w.ensures).other,
-      taken_away (entry c.args.j) (entry (32 - c.args.j)) c.args.or c.args.oi (cosine-most c.args.j c.requires.1)
-          (sine-most c.args.j) c.requires.4 c.requires.5 _ _ (third-kept c) (last c),
+      taken_away (entry c.args.j) (entry (32 - c.args.j)) c.args.or c.args.oi (cosine_most c.args.j c.requires.1)
+          (sine_most c.args.j) c.requires.4 c.requires.5 _ _ (third-kept c) (last c),
     )
 
 pub overflow_sub-u : goal.overflow_sub-u
@@ -81,8 +81,8 @@ overflow_sub-u c = enough (goal.at.overflow_sub-u c).After-part-4
 
 imaginary : (c : After-part-4) → Twice (c.part-3.result + c.row-w.result.y - c.part-4.result)
 imaginary c =
-    imaginary-room (entry c.args.j) (entry (32 - c.args.j)) c.args.or c.args.oi (cosine-most c.args.j c.requires.1)
-    (sine-most c.args.j) c.requires.4 c.requires.5 _ _ _ (third-kept c) (last c)
+    imaginary_room (entry c.args.j) (entry (32 - c.args.j)) c.args.or c.args.oi (cosine_most c.args.j c.requires.1)
+    (sine_most c.args.j) c.requires.4 c.requires.5 _ _ _ (third-kept c) (last c)
     (sums _ _ _ _ _ (enough c) (row (omega arith) c.row-w.ensures).other)
   where
     sums : (p q y a b : ℕ) → q ≤ p + y → y + a ≡ b → p + y - q + (q + a) ≡ p + b
@@ -115,9 +115,9 @@ wings j er ei or oi p q p' q' z y c s ec es ep eq ep' eq' both other h1 h2 h3 h4
   u = p' + y - q';
   real = omega (arith, ep ∙ ap (part or) ec, eq ∙ ap (part oi) es);
   imaginary = omega (arith, ep' ∙ ap (part oi) ec, eq' ∙ ap (part or) es);
-  sum-real = omega arith;
+  sum_real = omega arith;
   difference_real = omega arith;
-  sum-imaginary = omega arith;
+  sum_imaginary = omega arith;
   difference_imaginary = omega arith;
 }
 

@@ -2,7 +2,7 @@
 use mathlib.Core.Path.{◌≡◌}
 use Prim.Native.Nat.{ℕ, zero, suc, ◌*◌, ◌≤◌, ◌<◌}
 use native.Mathlib.Nat.{mul-lt-mul_of_pos_right, mul-le-mul}
-use Rattle.spectrum.proofs.Blocks.{quarter-most}
+use Rattle.spectrum.proofs.Blocks.{quarter_most}
 use Rattle.spectrum.proofs.Stores.{winged, wing_in, wing_in_2, wing_in_3}
 use native.Mathlib.Omega.{arith}
 use Rattle.spectrum.proofs.words.wing.Goals as goal
@@ -16,25 +16,25 @@ turn k g st low high whole = (omega (arith, mul-le-mul low (step g st whole)), o
     step g (suc st) e = omega arith
 
 pub overflow_mul-b : goal.overflow_mul-b
-overflow_mul-b c = omega (arith, quarter-most c.args.g c.args.st c.requires.2)
+overflow_mul-b c = omega (arith, quarter_most c.args.g c.args.st c.requires.2)
 
 pub overflow_cast-b : goal.overflow_cast-b
-overflow_cast-b c = omega (arith, quarter-most c.args.g c.args.st c.requires.2)
+overflow_cast-b c = omega (arith, quarter_most c.args.g c.args.st c.requires.2)
 
 pub overflow_mul-e : goal.overflow_mul-e
-overflow_mul-e c = omega (arith, quarter-most c.args.g c.args.st c.requires.2)
+overflow_mul-e c = omega (arith, quarter_most c.args.g c.args.st c.requires.2)
 
 pub overflow_add-e : goal.overflow_add-e
-overflow_add-e c = omega (arith, quarter-most c.args.g c.args.st c.requires.2)
+overflow_add-e c = omega (arith, quarter_most c.args.g c.args.st c.requires.2)
 
 pub overflow_cast-e : goal.overflow_cast-e
-overflow_cast-e c = omega (arith, quarter-most c.args.g c.args.st c.requires.2)
+overflow_cast-e c = omega (arith, quarter_most c.args.g c.args.st c.requires.2)
 
 pub overflow_mul-d : goal.overflow_mul-d
-overflow_mul-d c = omega (arith, quarter-most c.args.g c.args.st c.requires.2)
+overflow_mul-d c = omega (arith, quarter_most c.args.g c.args.st c.requires.2)
 
 pub overflow_cast-d : goal.overflow_cast-d
-overflow_cast-d c = omega (arith, quarter-most c.args.g c.args.st c.requires.2)
+overflow_cast-d c = omega (arith, quarter_most c.args.g c.args.st c.requires.2)
 
 pub overflow_mul-k : goal.overflow_mul-k
 overflow_mul-k c = omega (arith, (turn c.args.k c.args.g c.args.st c.requires.0 c.requires.1 c.requires.2).1)
