@@ -8,6 +8,7 @@ pub mod Reduction
 pub mod Join
 pub mod Taken
 pub mod Near
+pub mod Enclosed
 pub mod Whole
 pub mod Range
 pub mod Promise

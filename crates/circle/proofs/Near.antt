@@ -1,12 +1,11 @@
 -- How near the four functions come, put together from the rooms: Method and Rounding (the kernel), Turn (every phase), Reduction and Taken (the argument), Join (the last rounding).
 -- Assumes nothing.
-use Rattle.std.proofs.Common.{◌≡◌, ℕ, ◌+◌, ◌*◌, ◌/◌, ◌%◌, ◌^◌, ◌<◌, ◌≤◌, Bool, true, false, cond, refl, ap, le_trans, le_of_eq, le_of_lt, mul-le-mul_right, mod-lt, mul-zero, arith, lit<, lit≤, pow_pos}
+use Rattle.std.proofs.Common.{◌≡◌, ℕ, ◌+◌, ◌*◌, ◌/◌, ◌%◌, ◌^◌, ◌<◌, ◌≤◌, Bool, true, false, cond, refl, ap, le_trans, le_of_eq, mod-lt, mul-zero, arith, lit<, lit≤, pow_pos}
 use lib.Ieee.{Float}
 use Rattle.units.specs.Units.{mag, negative, P, N, Number}
 use Rattle.units.proofs.Size.{mag-lt}
-use Rattle.exact.specs.Circle.{Bound, bound, Sine, Cosine, QuarterTurn, quarter, quarter_unit}
+use Rattle.exact.specs.Circle.{Bound, bound, Sine, Cosine, quarter, quarter_unit}
 use Rattle.exact.proofs.Limits.{Both, both_wider}
-use Rattle.exact.proofs.Zero.{enclosed}
 use Rattle.fixed.proofs.Either.{top_bit}
 use Rattle.circle.specs.Phase.{radians}
 use Rattle.circle.specs.Wave.{size_of, wave, half_on, quarter_on, sin_pi_of, cos_pi_of, sin_of, cos_of}
@@ -36,7 +35,7 @@ abbrev pub open_bound : ℕ → ℕ → Float → Bound
 open_bound d w x = bound (wave_error_num * (w * 2 ^ 149) + wave_error_den * (d * (2 * mag x))) (wave_error_den * (w * 2 ^ 149))
 
 module _ (x : Float) (h : Number x) where
-  abbrev half : ℕ
+  abbrev pub half : ℕ
   half = mag x / 2 ^ 86
 
   pub sin_pi_is : sin_pi_of x ≡ wave ((half % 2 ^ 64 + cond (negative x) 1 0 * 2 ^ 63) % 2 ^ 64)
@@ -51,7 +50,7 @@ module _ (x : Float) (h : Number x) where
       on n = omega arith
 
   -- cosine and sine of 2 |x| times c / w are within e of the two floats
-  abbrev Close : ℕ → ℕ → Bound → Type 0
+  abbrev pub Close : ℕ → ℕ → Bound → Type 0
   Close c w e =
       Both (c * (2 * mag x)) (w * 2 ^ 149) (P (wave ((half + 2 ^ 62) % 2 ^ 64))) (N (wave ((half + 2 ^ 62) % 2 ^ 64))) (P (wave (half % 2 ^ 64))) (N (wave (half % 2 ^ 64))) (2 ^ 149) e.num e.den
 
@@ -61,14 +60,14 @@ module _ (x : Float) (h : Number x) where
     side true m = (mul-zero c, refl)
     side false m = (refl, mul-zero c)
 
-    sine_close : Sine (pi_times c w x) (as_fraction (sin_pi_of x)) e
+    pub sine_close : Sine (pi_times c w x) (as_fraction (sin_pi_of x)) e
     sine_close = let (i, j) = side (negative x) (mag x) in rw (i, j) (sine_joined (negative x) (half % 2 ^ 64) (less half) near (sin_pi_of x) sin_pi_is)
 
-    cosine_close : Cosine (pi_times c w x) (as_fraction (cos_pi_of x)) e
+    pub cosine_close : Cosine (pi_times c w x) (as_fraction (cos_pi_of x)) e
     cosine_close = let (i, j) = side (negative x) (mag x) in rw (i, j) (cosine_joined (negative x) ((half + 2 ^ 62) % 2 ^ 64) near (cos_pi_of x) cos_pi_is)
 
   -- by our own pi / 2
-  half_near : Close quarter quarter_unit (bound pi_error_num pi_error_den)
+  pub half_near : Close quarter quarter_unit (bound pi_error_num pi_error_den)
   half_near = both_float ((half + 2 ^ 62) % 2 ^ 64) (half % 2 ^ 64) (less (half + 2 ^ 62)) (less half) (half-arrived (mag x) (mag-lt x h))
 
   pub sin_pi_near : Sine (pi_times quarter quarter_unit x) (as_fraction (sin_pi_of x)) (bound pi_error_num pi_error_den)
@@ -76,23 +75,6 @@ module _ (x : Float) (h : Number x) where
 
   pub cos_pi_near : Cosine (pi_times quarter quarter_unit x) (as_fraction (cos_pi_of x)) (bound pi_error_num pi_error_den)
   cos_pi_near = cosine_close quarter quarter_unit (bound pi_error_num pi_error_den) half_near
-
-  module _ (c d w : ℕ) (wpos : 0 < w) (turn : QuarterTurn c d w) where
-    -- by any other; 17 / 2 ^ 29 is 136 / 2 ^ 32, so that there is room for what is between them
-    any_near : Close c w (open_bound d w x)
-    any_near = enclosed (2 * mag x) (2 ^ 149) (2 ^ 40) wave_error_num wave_error_den wpos (pow_pos 149) (lit< tt) (lit< tt) turn room half_near
-      where
-        room : pi_error_num * wave_error_den * (quarter_unit * 2 ^ 149 * 2 ^ 40) + pi_error_den * wave_error_den * (2 * mag x * 2 ^ 40 + quarter_unit * 2 ^ 149) ≤ wave_error_num * pi_error_den * (quarter_unit * 2 ^ 149 * 2 ^ 40)
-        room = through (quarter_unit * 2 ^ 149) (mag x) (le_trans (mul-le-mul_right (2 ^ 34) (le_of_lt (mag-lt x h))) (unfold quarter_unit in lit≤ tt))
-          where
-            through : (Q M : ℕ) → M * 2 ^ 34 ≤ Q → pi_error_num * wave_error_den * (Q * 2 ^ 40) + pi_error_den * wave_error_den * (2 * M * 2 ^ 40 + Q) ≤ wave_error_num * pi_error_den * (Q * 2 ^ 40)
-            through Q M l = omega arith
-
-    pub sin_pi_enclosed : Sine (pi_times c w x) (as_fraction (sin_pi_of x)) (open_bound d w x)
-    sin_pi_enclosed = sine_close c w (open_bound d w x) any_near
-
-    pub cos_pi_enclosed : Cosine (pi_times c w x) (as_fraction (cos_pi_of x)) (open_bound d w x)
-    cos_pi_enclosed = cosine_close c w (open_bound d w x) any_near
 
 -- ---- x itself
 

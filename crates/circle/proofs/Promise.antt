@@ -11,7 +11,8 @@ use Rattle.circle.specs.Wave.{wave_bits, wave, half_on, quarter_on, sin_pi_of, c
 use Rattle.circle.specs.Promise.{AcceptsPi, Accepts, wave_error_num, wave_error_den, pi_error_num, pi_error_den, as_fraction, pi_times, SinPi, CosPi, Sin, Cos}
 use Rattle.circle.proofs.Pattern.{wave_pattern}
 use Rattle.circle.proofs.Taken.{size_bits}
-use Rattle.circle.proofs.Near.{less, wave-number, wave_inside, open_bound, sin_pi_is, cos_pi_is, sin_is, cos_is, sin_pi_near, cos_pi_near, sin_pi_enclosed, cos_pi_enclosed, sin_near, cos_near}
+use Rattle.circle.proofs.Enclosed.{sin_pi_enclosed, cos_pi_enclosed}
+use Rattle.circle.proofs.Near.{less, wave-number, wave_inside, open_bound, sin_pi_is, cos_pi_is, sin_is, cos_is, sin_pi_near, cos_pi_near, sin_near, cos_near}
 use Rattle.circle.proofs.Whole.{sin_pi_whole, cos_pi_whole}
 
 -- a result that is a wave's is finite, and from -1 to 1

@@ -8,7 +8,7 @@ use Rattle.gaps.specs.Apart.{OffMiddles, Rising, Falling}
 use Rattle.gaps.proofs.Stretch.{Away}
 use Rattle.gaps.proofs.Distance.{apart}
 use Rattle.gaps.proofs.Rising.{rising_clear}
-use Rattle.gaps.proofs.Falling.{falling_clear}
+use Rattle.gaps.proofs.FallingClear.{falling_clear}
 
 -- the middles, in units of 2 ^ -128
 off : (p Q : ℕ) → ((z : ℕ) → Away (2 ^ 104 + 2 ^ 105 * z) (2 ^ 70) (2 ^ 128) p Q) → OffMiddles p Q
