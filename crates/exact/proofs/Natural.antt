@@ -41,7 +41,7 @@ halves : 2 * ln_two ≤ 31 * ln_unit
 unfolding ln_two ln_unit
 halves = lit≤ tt
 
--- e ^ lnTwo is at most 2
+-- e ^ ln_two is at most 2
 below_two : (m : ℕ) → powers ln_two ln_unit m ≤ 2 * denominator ln_unit m
 below_two m = elim (dec_le 30 m) [
   | yes l ↦ le_of_mul-le-mul_right (later (powers ln_two ln_unit m) (powers ln_two ln_unit 30) (denominator ln_unit 30) (denominator ln_unit m) (ln_two ^ 30) settled (partial_tail every every_most ln_two ln_unit 30 m halves l)) (over_pos ln_unit 30 ln_unit_pos)

@@ -1,4 +1,4 @@
--- The first zero of cosine is between quarter / quarterUnit and the next fraction; so every enclosure of pi / 2 is near them.
+-- The first zero of cosine is between quarter / quarter_unit and the next fraction; so every enclosure of pi / 2 is near them.
 use mathlib.Core.Path.{◌≡◌, ap, ◌∙◌}
 use Prim.Native.Nat.{ℕ, suc, ◌+◌, ◌-◌, ◌*◌, ◌/◌, ◌^◌, ◌≤◌, ◌<◌}
 use native.Mathlib.Nat.{le_of_lt, lt_of_not-le, le_dest, mul_comm, mul-pos, mul-le-mul, mul-le-mul_left, mul-le-mul_right, le_of_mul-le-mul_left, le_of_mul-le-mul_right, one-le-pow, div-mul-le_self, lt-div-mul-add}
@@ -15,7 +15,7 @@ use Rattle.exact.proofs.Limits.{Both, both_wider}
 use Rattle.exact.proofs.Shift.{moved_to}
 use Rattle.exact.proofs.Quarter.{sharp, quarter-unit_pos, quarter-above, next_beneath}
 
--- ---- cosine is above zero up to quarter / quarterUnit
+-- ---- cosine is above zero up to quarter / quarter_unit
 
 -- from some term on, cos (p / q) is at least 1 / sharp
 record Above (p q : ℕ) : Type 0 where
@@ -77,7 +77,7 @@ above-sum S p r q n pos h up ly lv lu mu =
         S * F' + 2 * o ≤ S * F → y * v' + y' * v ≤ y * v + y' * v' → S * (x * u' + x' * u) + o * o ≤ S * (x * u + x' * u')
     through x x' y y' u u' v v' F F' o l m d k = omega (arith, mul-le-mul_left S l, mul-le-mul_right o d, mul-le-mul_left S k)
 
--- where t is at least 4 / 5, by the sum of t and a rest r of at most 4 / 5, which is quarter / quarterUnit
+-- where t is at least 4 / 5, by the sum of t and a rest r of at most 4 / 5, which is quarter / quarter_unit
 module _ (p q r : ℕ) (pos : 0 < q) (large : 4 * q ≤ 5 * p) (sum : p * quarter_unit + r ≡ quarter * q) where
   wide : 0 < q * quarter_unit
   wide = mul-pos pos quarter-unit_pos
@@ -121,7 +121,7 @@ above p q pos less =
 
 -- ---- the record of pi / 2
 
--- quarter / quarterUnit ≤ pi / 2 ≤ (quarter + 1) / quarterUnit
+-- quarter / quarter_unit ≤ pi / 2 ≤ (quarter + 1) / quarter_unit
 pub quarter_turn : QuarterTurn quarter 1 quarter_unit
 quarter_turn = record {
   before = λ p q pos l. let a = above p q pos l in record { holds = record { from = λ b. a.from; least = λ b n m. plus sharp b _ _ _ sharp_least (a.holds n m) } };
@@ -190,7 +190,7 @@ quarter_known {c} {d} {w} pos h = (
 wider : (a b a' b' v z Y T : ℕ) → a * b' * Y + b * b' * T ≤ a' * b * Y → (a * (v * Y) + b * (v * T + z * Y)) * (b' * v) ≤ (a' * v + b' * z) * (b * (v * Y))
 wider a b a' b' v z Y T room = omega (arith, mul-le-mul_left (v * v) room)
 
--- what is within a / b at x / D times ours is within a' / b' + d x / (w D) at x / D times c / w, where a' / b' leaves room for x / (quarterUnit D) + 1 / e
+-- what is within a / b at x / D times ours is within a' / b' + d x / (w D) at x / D times c / w, where a' / b' leaves room for x / (quarter_unit D) + 1 / e
 pub enclosed : {c d w C C' S S' U a b : ℕ} (x D e a' b' : ℕ) → 0 < w → 0 < D → 0 < b → 0 < e → QuarterTurn c d w →
     a * b' * (quarter_unit * D * e) + b * b' * (x * e + quarter_unit * D) ≤ a' * b * (quarter_unit * D * e) →
     Both (quarter * x) (quarter_unit * D) C C' S S' U a b → Both (c * x) (w * D) C C' S S' U (a' * (w * D) + b' * (d * x)) (b' * (w * D))

@@ -62,14 +62,14 @@ pub fine_fits : (t : ℕ) → t < U → fine_of t < U
 unfolding fine_of coefficients horner
 fine_fits t h = le_trans (suc-le-suc (quotients U (lit< tt) (mul-le-mul (horner_mono U coefficients (lit< tt) (le_of_lt h)) (le_of_lt h)))) (lit≤ tt)
 
--- 1 + fineOf t / U ≤ 2 ^ (t / U)
+-- 1 + fine_of t / U ≤ 2 ^ (t / U)
 pub fine_most : (t : ℕ) → t < U → AtMost (U + fine_of t) U t 0 U
 fine_most t h = most_of_less (lit< tt) (through U (U ^ 17) (U + fine_of t) (value 17 (U ∷ coefficients) t U) (below t)) (beneath.bound t U (lit< tt))
   where
     through : (u E r v : ℕ) → r * E ≤ v → r * (u * E) ≤ v * u
     through u E r v l = omega (arith, mul-le-mul_right u l)
 
--- 2 ^ (t / U) ≤ 1 + (fineOf t + 63) / U
+-- 2 ^ (t / U) ≤ 1 + (fine_of t + 63) / U
 pub fine_least : (t : ℕ) → t < U → AtLeast (U + fine_of t + 63) U t 0 U
 fine_least t h =
     least_of_more (lit< tt) (through U (U ^ 17) (fine_of t) (value 17 (U ∷ coefficients) t U) (close t (le_of_lt h)) (fine_fits t h) (lit≤ tt)) (near t U (lit< tt) (le_of_lt h))

@@ -3,7 +3,7 @@ use Rattle.std.specs.Prelude.{◌≡◌, List, ℕ, ◌+◌, ◌*◌, ◌≤◌,
 use Rattle.units.specs.Units.{P, N}
 use Rattle.spectrum.specs.Transform.{at}
 
--- every sample of xs' is p / q times that of xs, p / q at least 1, as exact numbers: proofs/Louder (never-lower) says that no current is lower by more than one step
+-- every sample of xs' is p / q times that of xs, p / q at least 1, as exact numbers: proofs/Louder (never_lower) says that no current is lower by more than one step
 pub record Louder (xs xs' : List Float) : Type 0 where
   pub p : ℕ
   pub q : ℕ
