@@ -29,7 +29,7 @@ chip: build/$(FOR)/libearmath.a
 chip-compiler:
 	@echo $(KIT_TOOLS)/clang
 
-build/chip/module.ll: chip/module $(LIBRARY)
+build/chip/module.ll: chip/module tools/kit_of_links $(LIBRARY)
 	chip/module $@
 
 build/%/libearmath.a: build/chip/module.ll chip/clear.c

@@ -52,7 +52,7 @@ pub extern "C" fn ear_exp(x: f32, out: &mut u32) -> u32
     earmath::ear_exp(x, out)
 }
 
-// The logarithm to base two of every bit pattern: within 33 / 2^29 of it, relatively, and of 1 it is +0; or code 1 and nothing written.
+// The logarithm to base two of every bit pattern: the nearest float, of 1 it is +0; or code 1 and nothing written.
 #[unsafe(no_mangle)]
 pub extern "C" fn ear_log2(x: f32, out: &mut u32) -> u32
     ensures { Ends float_bits (Log2 x) result out.old out.new }

@@ -48,7 +48,7 @@ fn judged(top: u32, x: &[f32], w: &[f32], bands: &[u32], out: &mut [u32]) -> u32
     if 0x3f80_0000 < spectrum::floats::largest(w) {
         return 1;
     }
-    // two lists of words; filled with zeros they would be a call of memset, which the chip's archive must not have
+    // two lists of words, written before they are read: any value will do
     let any = top as u64;
     let mut y = [any; 128];
     frame::products(x, w, &mut y);

@@ -28,7 +28,7 @@ pub fn transform(x: &[f32], re: &mut [u32], im: &mut [u32]) -> u32
         return 1;
     }
     let e = floats::scale(m);
-    // two lists of words; filled with zeros they would be a call of memset, which the chip's archive must not have
+    // two lists of words, written before they are read: any value will do
     let any = e as u64;
     let mut y = [any; 128];
     floats::load_all(x, e, &mut y);
