@@ -48,7 +48,7 @@ pub fn ear_exp(x: f32, out: &mut u32) -> u32
     powers::natural::exp(x, out)
 }
 
-// The logarithm to base two of every bit pattern: within 33 / 2^29 of it, relatively, and of 1 it is +0; or code 1 and nothing written.
+// The logarithm to base two of every bit pattern: the nearest float, of 1 it is +0; or code 1 and nothing written.
 pub fn ear_log2(x: f32, out: &mut u32) -> u32
     ensures { Ends float_bits (Log2 x) result out.old out.new }
 {
