@@ -1,6 +1,7 @@
-/* Today's compiler zeroes a function's local lists as it begins, those of more than some 128 bytes by a call. This is
-   what it calls: the archive stands alone, with no C library. The names are the compiler's, for x86-64 and for ARM. Where
-   a program has functions of these names they serve as well, so those for ARM give way to them. */
+/* Today's compiler zeroes a function's local lists as it begins, those of more than some 128 bytes
+   by a call. This is what it calls: the archive stands alone, with no C library. The names are the
+   compiler's, for x86-64 and for ARM. Where a program has functions of these names they serve as
+   well, so those for ARM give way to them. */
 typedef __SIZE_TYPE__ size;
 typedef __UINT32_TYPE__ word;
 typedef __UINT64_TYPE__ words;

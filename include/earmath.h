@@ -213,7 +213,8 @@ uint32_t ear_softmax2_in_place(float *p, uint64_t n);
  * x, re and im must be valid, aligned pointers to nx, nre and nim floats, and no
  * two of the lists may overlap. A call needs 3.1 KB of stack on a Cortex-M4F.
  */
-uint32_t ear_transform128(const float *x, uint64_t nx, float *re, uint64_t nre, float *im, uint64_t nim);
+uint32_t ear_transform128(const float *x, uint64_t nx, float *re, uint64_t nre, float *im,
+                          uint64_t nim);
 
 /*
  * Softmax, base e: p[i] is e^x[i] over the sum of e^x[j] for all j. The same promise
@@ -250,7 +251,8 @@ uint32_t ear_loudness(float b, float m, uint32_t t, uint32_t c, float a, uint32_
  * Order:   never falls as a grows.
  * Refuses: as ear_loudness; top > 1023 and c > top with EAR_BAD_CHANNEL.
  */
-uint32_t ear_loudness_top(uint32_t top, float b, float m, uint32_t t, uint32_t c, float a, uint32_t *out);
+uint32_t ear_loudness_top(uint32_t top, float b, float m, uint32_t t, uint32_t c, float a,
+                          uint32_t *out);
 
 /*
  * The loudness map with a knee: from b to k the current goes from step t to step
@@ -264,8 +266,8 @@ uint32_t ear_loudness_top(uint32_t top, float b, float m, uint32_t t, uint32_t c
  * Order:   never falls as a grows, across the knee too.
  * Refuses: as ear_loudness.
  */
-uint32_t ear_loudness_knee(uint32_t top, float b, float k, float m, uint32_t t, uint32_t kk, uint32_t c, float a,
-                           uint32_t *out);
+uint32_t ear_loudness_knee(uint32_t top, float b, float k, float m, uint32_t t, uint32_t kk,
+                           uint32_t c, float a, uint32_t *out);
 
 /* How many words a fitted channel has: a straight one, and one with a knee. */
 enum { EAR_FITTED_WORDS = 6, EAR_FITTED_KNEE_WORDS = 12 };
@@ -281,14 +283,15 @@ enum { EAR_FITTED_WORDS = 6, EAR_FITTED_KNEE_WORDS = 12 };
  *          EAR_BAD_LENGTH where n is another; EAR_BAD_CHANNEL where the channel
  *          breaks a condition.
  */
-uint32_t ear_fit(uint32_t top, float b, float m, uint32_t t, uint32_t c, uint32_t *words, uint64_t n);
+uint32_t ear_fit(uint32_t top, float b, float m, uint32_t t, uint32_t c, uint32_t *words,
+                 uint64_t n);
 
 /*
  * The same of a channel with a knee, one of those of ear_loudness_knee. n has to be
  * EAR_FITTED_KNEE_WORDS. Each of its two halves has a check.
  */
-uint32_t ear_fit_knee(uint32_t top, float b, float k, float m, uint32_t t, uint32_t kk, uint32_t c, uint32_t *words,
-                      uint64_t n);
+uint32_t ear_fit_knee(uint32_t top, float b, float k, float m, uint32_t t, uint32_t kk, uint32_t c,
+                      uint32_t *words, uint64_t n);
 
 /*
  * The loudness map of a fitted channel: the words of ear_fit, n of them, or those of
