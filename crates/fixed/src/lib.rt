@@ -23,6 +23,14 @@ pub fn bits_of(x: f32) -> u32
     f32::to_bits(x)
 }
 
+// The upper word of a product of two words: one instruction on a chip of 32 bits.
+pub fn upper_product(a: u32, b: u32) -> u32
+    ensures value { result ≡ a * b / 4294967296 }
+    ensures below { result ≤ a }
+{
+    (u64::from(a) * u64::from(b) / 4294967296) as u32
+}
+
 // The upper word of n shifted up by s places, out of its two words.
 pub fn upper_word(n: u64, s: u32) -> u32
     requires { (n * 2 ^ s < 2 ^ 64) × (s < 32) }
