@@ -1,4 +1,4 @@
--- How a call in Rattle ends: an answer, or a refusal by its code. Definitions only.
+-- How a call in Rattle ends: an answer, or a refusal. A reader of the promises need not read this. Definitions only.
 use Rattle.std.specs.Prelude.{◌≡◌, ℕ, Result, Ok, Err, IfOk}
 use Rattle.units.specs.declared.refusal.Refusal.{Refusal}
 use Rattle.units.specs.declared.refusal.Refusal.TheVariants.{OutOfRange, BadLength, Overflow, BadChannel}
