@@ -8,8 +8,8 @@ ghost use Rattle.units.specs.Answers.{Ends, float_bits, list_bits, itself};
 ghost use Rattle.units.specs.Refusals.{code_in, Gives};
 ghost use Rattle.roots.specs.Sqrt.{Sqrt};
 ghost use Rattle.roots.specs.Rsqrt.{Rsqrt};
-ghost use Rattle.loudness.specs.Map.{Channel, Loudness};
-ghost use Rattle.loudness.specs.Knee.{BentChannel, LoudnessKnee};
+ghost use Rattle.loudness.specs.Map.{Channel as IsChannel, Loudness};
+ghost use Rattle.loudness.specs.Knee.{BentChannel as IsBentChannel, LoudnessKnee};
 ghost use Rattle.loudness.specs.Fitted.{straight_words, bent_words, as_they_are, fitted_of, fitted_knee, Fits, Step};
 ghost use Rattle.powers.specs.Exp2.{Exp2};
 ghost use Rattle.powers.specs.Exp.{Exp};
@@ -22,7 +22,9 @@ ghost use Rattle.exactsums.specs.Nearest.{NearestDot};
 ghost use Rattle.powers.specs.Base.{two, natural};
 ghost use Rattle.weights.specs.Softmax.{Softmax, floats_of};
 
-use units::Refusal;
+pub use loudness::Channel;
+pub use loudness::knee::BentChannel;
+pub use units::Refusal;
 
 // The square root of every bit pattern: the nearest float, or OutOfRange.
 pub fn ear_sqrt(x: f32) -> Result<u32, Refusal>
@@ -110,12 +112,12 @@ pub fn ear_softmax(x: &[f32], p: &mut [u32]) -> Result<(), Refusal>
     weights::softmax(x, p)
 }
 
-// The loudness map of an envelope value a in the channel b, m, t, c: a step within 0.500001 of the exact map, or
+// The loudness map of an envelope value a in a channel: a step within 0.500001 of the exact map, or
 // BadChannel or OutOfRange.
-pub fn ear_loudness(b: f32, m: f32, t: u32, c: u32, a: f32) -> Result<u32, Refusal>
-    ensures { Gives itself (Loudness 255 b m t c a) result }
+pub fn ear_loudness(channel: Channel, a: f32) -> Result<u32, Refusal>
+    ensures { Gives itself (Loudness 255 channel.b channel.m channel.t channel.c a) result }
 {
-    loudness::loudness(b, m, t, c, a)
+    loudness::loudness(channel, a)
 }
 
 // The softmax of the floats that a list holds, in their place: within 273 / 2^32 of the quotient and from below one
@@ -128,50 +130,38 @@ pub fn ear_softmax2_in_place(p: &mut [u32]) -> Result<(), Refusal>
 
 // The loudness map of a stimulator with the steps 0 to top, at most 1,023: a step within 0.500004 of the exact map,
 // 0.500001 where top is at most 255.
-pub fn ear_loudness_top(top: u32, b: f32, m: f32, t: u32, c: u32, a: f32) -> Result<u32, Refusal>
-    ensures { Gives itself (Loudness top b m t c a) result }
+pub fn ear_loudness_top(top: u32, channel: Channel, a: f32) -> Result<u32, Refusal>
+    ensures { Gives itself (Loudness top channel.b channel.m channel.t channel.c a) result }
 {
-    loudness::loudness_top(top, b, m, t, c, a)
+    loudness::loudness_top(top, channel, a)
 }
 
-// The map with a knee: straight from b to k with the steps t to kk, and from k to m with the steps kk to c.
-pub fn ear_loudness_knee(
-    top: u32,
-    b: f32,
-    k: f32,
-    m: f32,
-    t: u32,
-    kk: u32,
-    c: u32,
-    a: f32,
-) -> Result<u32, Refusal>
-    ensures { Gives itself (LoudnessKnee top b k m t kk c a) result }
+// The map with a knee: straight from b to k with the steps t to s, and from k to m with the steps s to c.
+pub fn ear_loudness_knee(top: u32, channel: BentChannel, a: f32) -> Result<u32, Refusal>
+    ensures { Gives itself (LoudnessKnee top channel.b channel.k channel.m channel.t channel.s channel.c a) result }
 {
-    loudness::knee::loudness_knee(top, b, k, m, t, kk, c, a)
+    loudness::knee::loudness_knee(top, channel, a)
 }
 
 // What the map needs of a channel, worked out once, in 6 words: those that ear_step takes; or BadLength or BadChannel
 // and nothing written.
-pub fn ear_fit(top: u32, b: f32, m: f32, t: u32, c: u32, words: &mut [u32]) -> Result<(), Refusal>
-    ensures { Ends as_they_are (Fits (Channel top b m t c) (fitted_of b m t c) straight_words (length words.old)) (code_in result) words.old words.new }
+pub fn ear_fit(top: u32, channel: Channel, words: &mut [u32]) -> Result<(), Refusal>
+    ensures { Ends as_they_are
+        (Fits (IsChannel top channel.b channel.m channel.t channel.c)
+        (fitted_of channel.b channel.m channel.t channel.c) straight_words (length words.old))
+        (code_in result) words.old words.new }
 {
-    loudness::fitted::fit(top, b, m, t, c, words)
+    loudness::fitted::fit(top, channel, words)
 }
 
 // The same of a bent channel, in 12 words.
-pub fn ear_fit_knee(
-    top: u32,
-    b: f32,
-    k: f32,
-    m: f32,
-    t: u32,
-    kk: u32,
-    c: u32,
-    words: &mut [u32],
-) -> Result<(), Refusal>
-    ensures { Ends as_they_are (Fits (BentChannel top b k m t kk c) (fitted_knee b k m t kk c) bent_words (length words.old)) (code_in result) words.old words.new }
+pub fn ear_fit_knee(top: u32, channel: BentChannel, words: &mut [u32]) -> Result<(), Refusal>
+    ensures { Ends as_they_are
+        (Fits (IsBentChannel top channel.b channel.k channel.m channel.t channel.s channel.c)
+        (fitted_knee channel.b channel.k channel.m channel.t channel.s channel.c) bent_words (length words.old))
+        (code_in result) words.old words.new }
 {
-    loudness::fitted::fit_knee(top, b, k, m, t, kk, c, words)
+    loudness::fitted::fit_knee(top, channel, words)
 }
 
 // The step of an envelope value by the words of a fitted channel: the map's; or BadLength, BadChannel or OutOfRange.
@@ -184,7 +174,8 @@ pub fn ear_step(words: &[u32], a: f32) -> Result<u32, Refusal>
 // The transform of 128 floats, parts 0 to 64: each within 2^-24 of its size, 2^-42 of the largest value and 2^-150, or
 // BadLength or OutOfRange and nothing written.
 pub fn ear_transform128(x: &[f32], re: &mut [u32], im: &mut [u32]) -> Result<(), Refusal>
-    ensures { Ends both_bits (Transform x.now (length re.old) (length im.old)) (code_in result) (re.old, im.old) (re.new, im.new) }
+    ensures { Ends both_bits (Transform x.now (length re.old) (length im.old)) (code_in result)
+        (re.old, im.old) (re.new, im.new) }
 {
     spectrum::transform(x, re, im)
 }

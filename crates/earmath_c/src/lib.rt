@@ -8,8 +8,8 @@ ghost use Rattle.units.specs.Answers.{Ends, float_bits, list_bits, itself};
 ghost use Rattle.units.specs.Refusals.{code_in};
 ghost use Rattle.roots.specs.Sqrt.{Sqrt};
 ghost use Rattle.roots.specs.Rsqrt.{Rsqrt};
-ghost use Rattle.loudness.specs.Map.{Channel, Loudness};
-ghost use Rattle.loudness.specs.Knee.{BentChannel, LoudnessKnee};
+ghost use Rattle.loudness.specs.Map.{Channel as IsChannel, Loudness};
+ghost use Rattle.loudness.specs.Knee.{BentChannel as IsBentChannel, LoudnessKnee};
 ghost use Rattle.loudness.specs.Fitted.{straight_words, bent_words, as_they_are, fitted_of, fitted_knee, Fits, Step};
 ghost use Rattle.powers.specs.Exp2.{Exp2};
 ghost use Rattle.powers.specs.Exp.{Exp};
@@ -22,7 +22,7 @@ ghost use Rattle.exactsums.specs.Nearest.{NearestDot};
 ghost use Rattle.powers.specs.Base.{two, natural};
 ghost use Rattle.weights.specs.Softmax.{Softmax, floats_of};
 
-use units::Refusal;
+use earmath::{BentChannel, Channel, Refusal};
 
 // The code of an answer, 0 where it is no refusal.
 fn code(answer: Result<(), Refusal>) -> u32
@@ -152,7 +152,7 @@ pub extern "C" fn ear_softmax(x: &[f32], p: &mut [u32]) -> u32
 pub extern "C" fn ear_loudness(b: f32, m: f32, t: u32, c: u32, a: f32, out: &mut u32) -> u32
     ensures { Ends itself (Loudness 255 b m t c a) result out.old out.new }
 {
-    write(earmath::ear_loudness(b, m, t, c, a), out)
+    write(earmath::ear_loudness(Channel { b, m, t, c }, a), out)
 }
 
 // The softmax of the floats that a list holds, in their place: within 273 / 2^32 of the quotient and from below one
@@ -178,7 +178,7 @@ pub extern "C" fn ear_loudness_top(
 ) -> u32
     ensures { Ends itself (Loudness top b m t c a) result out.old out.new }
 {
-    write(earmath::ear_loudness_top(top, b, m, t, c, a), out)
+    write(earmath::ear_loudness_top(top, Channel { b, m, t, c }, a), out)
 }
 
 // The map with a knee: straight from b to k with the steps t to kk, and from k to m with the steps kk to c.
@@ -196,16 +196,16 @@ pub extern "C" fn ear_loudness_knee(
 ) -> u32
     ensures { Ends itself (LoudnessKnee top b k m t kk c a) result out.old out.new }
 {
-    write(earmath::ear_loudness_knee(top, b, k, m, t, kk, c, a), out)
+    write(earmath::ear_loudness_knee(top, BentChannel { b, k, m, t, s: kk, c }, a), out)
 }
 
 // What the map needs of a channel, worked out once, in 6 words: those that ear_step takes; or code 2 or 4 and nothing
 // written.
 #[unsafe(no_mangle)]
 pub extern "C" fn ear_fit(top: u32, b: f32, m: f32, t: u32, c: u32, words: &mut [u32]) -> u32
-    ensures { Ends as_they_are (Fits (Channel top b m t c) (fitted_of b m t c) straight_words (length words.old)) result words.old words.new }
+    ensures { Ends as_they_are (Fits (IsChannel top b m t c) (fitted_of b m t c) straight_words (length words.old)) result words.old words.new }
 {
-    code(earmath::ear_fit(top, b, m, t, c, words))
+    code(earmath::ear_fit(top, Channel { b, m, t, c }, words))
 }
 
 // The same of a bent channel, in 12 words.
@@ -220,9 +220,9 @@ pub extern "C" fn ear_fit_knee(
     c: u32,
     words: &mut [u32],
 ) -> u32
-    ensures { Ends as_they_are (Fits (BentChannel top b k m t kk c) (fitted_knee b k m t kk c) bent_words (length words.old)) result words.old words.new }
+    ensures { Ends as_they_are (Fits (IsBentChannel top b k m t kk c) (fitted_knee b k m t kk c) bent_words (length words.old)) result words.old words.new }
 {
-    code(earmath::ear_fit_knee(top, b, k, m, t, kk, c, words))
+    code(earmath::ear_fit_knee(top, BentChannel { b, k, m, t, s: kk, c }, words))
 }
 
 // The step of an envelope value by the words of a fitted channel: the map's; or code 2, 4 or 1 and nothing written.
