@@ -4,21 +4,6 @@ use Prim.Native.Nat.{ℕ, ◌+◌, ◌*◌, ◌/◌, ◌%◌, ◌^◌, ◌≤◌
 use native.Mathlib.Nat.{mul-le-mul, mul-le-mul_left}
 use native.Mathlib.Omega.{arith}
 
--- a product of two words
-pub words : (a b : ℕ) → a < 4294967296 → b < 4294967296 → a * b ≤ 4294967295 * 4294967295
-words a b h k = let i : a ≤ 4294967295 = omega arith in let j : b ≤ 4294967295 = omega arith in mul-le-mul i j
-
--- a fraction of p is at most p
-pub fraction : (p t : ℕ) → t < 2 ^ 64 → p * t / 2 ^ 64 ≤ p
-fraction p t h = let l : t ≤ 18446744073709551616 = omega arith in omega (arith, mul-le-mul_left p l)
-
--- the two products of a word p, with their carry
-pub part : (p t : ℕ) → (p * (t / 4294967296) + p * (t % 4294967296) / 4294967296) / 4294967296 ≡ p * t / 2 ^ 64
-part p t = carried (t / 4294967296) (t % 4294967296) t (omega arith)
-  where
-    carried : (c d t : ℕ) → t ≡ c * 4294967296 + d → (p * c + p * d / 4294967296) / 4294967296 ≡ p * t / 2 ^ 64
-    carried c d t k = rw k (omega arith)
-
 -- the four products of the words, with their carries
 pub product : (p t : ℕ) →
     let l = p % 4294967296 * (t % 4294967296) in

@@ -4,7 +4,7 @@
 
 pub mod division;
 
-ghost use Rattle.std.specs.Prelude.{◌≡◌, ◌*◌, ◌/◌, ◌^◌, ◌≤◌, ◌<◌};
+ghost use Rattle.std.specs.Prelude.{◌≡◌, ◌*◌, ◌/◌, ◌^◌, ◌≤◌, ◌<◌, MatchOption};
 ghost use Rattle.std.specs.Int.Count.{count_leading_zeros};
 ghost use Rattle.std.specs.Float.{binary32};
 ghost use Rattle.std.specs.Float.Ieee.{to_bits};
@@ -20,7 +20,7 @@ pub fn bits_of(x: f32) -> u32
     if x != x {
         return 0x7fc0_0000;
     }
-    f32::to_bits(x)
+    x.to_bits()
 }
 
 // The upper word of a product of two words: one instruction on a chip of 32 bits.
@@ -41,7 +41,7 @@ pub fn upper_word(n: u64, s: u32) -> u32
     (high << s) + (low / 2 >> (31 - s))
 }
 
-#[derive(Drop)]
+#[derive(Clone, Copy, Debug, PartialEq, Eq)]
 pub struct Parts {
     pub m: u32,
     pub e: u32,
@@ -52,9 +52,9 @@ pub fn apart(x: f32) -> Parts
     requires { Positive x }
     ensures { Apart x result.m result.e }
 {
-    let b = f32::to_bits(x);
+    let b = x.to_bits();
     if b < 8388608 {
-        let s = u32::leading_zeros(b) - 8;
+        let s = b.leading_zeros() - 8;
         Parts {
             m: b << s,
             e: 24 - s,
@@ -67,44 +67,52 @@ pub fn apart(x: f32) -> Parts
     }
 }
 
-// The first 32 digits m of a number above zero, and how many zeros e of 64 stand before them.
+// The first 32 digits m of a number, and how many zeros e of 64 stand before them: of zero there are none. The digits are those of one word,
+// the upper one where it is not zero: a chip of 32 bits has no shift of 64.
+#[inline]
+fn first_digits(n: u64) -> Option<Parts>
+    ensures { MatchOption result (n ≡ 0) (λ first. (0 < n) × (first.m ≡ n * 2 ^ count_leading_zeros 64 n / 4294967296) × (first.e ≡ count_leading_zeros 64 n)) }
+{
+    let h = (n / 4294967296) as u32;
+    if 0 < h {
+        let z = h.leading_zeros();
+        return Some(Parts {
+            m: upper_word(n, z),
+            e: z,
+        });
+    }
+    let l = (n % 4294967296) as u32;
+    if l == 0 {
+        return None;
+    }
+    let z = l.leading_zeros();
+    Some(Parts {
+        m: l << z,
+        e: 32 + z,
+    })
+}
+
+// The same of a number above zero.
 pub fn first_word(n: u64) -> Parts
     requires { 0 < n }
     ensures { (result.m ≡ n * 2 ^ count_leading_zeros 64 n / 4294967296) × (result.e ≡ count_leading_zeros 64 n) }
 {
-    let h = (n / 4294967296) as u32;
-    if 0 < h {
-        let z = u32::leading_zeros(h);
-        return Parts {
-            m: upper_word(n, z),
-            e: z,
-        };
-    }
-    let l = (n % 4294967296) as u32;
-    let z = u32::leading_zeros(l);
-    Parts {
-        m: l << z,
-        e: 32 + z,
+    match first_digits(n) {
+        Some(first) => first,
+        None => unreachable!(),
     }
 }
 
-// The bit pattern of the float nearest to n * 2 ^ (e - 40) units: the first 25 digits of n, and one of them rounded off. A carry runs into the exponent.
-// The digits are those of one word, the upper one where it is not zero: a chip of 32 bits has no shift of 64.
+// The bit pattern of the float nearest to n * 2 ^ (e - 40) units: the first 25 digits of n, and one of them rounded off. A carry runs into
+// the exponent.
 pub fn nearest_bits(n: u64, e: u32) -> u32
     requires { Normal n e }
     ensures { result ≡ nearest_bits n e }
 {
-    let h = (n / 4294967296) as u32;
-    if 0 < h {
-        let z = u32::leading_zeros(h);
-        return (e - z) * 8388608 + (upper_word(n, z) / 128 + 1) / 2;
+    match first_digits(n) {
+        Some(first) => (e - first.e) * 8388608 + (first.m / 128 + 1) / 2,
+        None => 0,
     }
-    let l = (n % 4294967296) as u32;
-    if l == 0 {
-        return 0;
-    }
-    let z = u32::leading_zeros(l);
-    (e - 32 - z) * 8388608 + ((l << z) / 128 + 1) / 2
 }
 
 // The same with ties to even, for n of at most 63 digits: half a digit less one is added, and one more where the digits are odd.
@@ -115,7 +123,7 @@ pub fn even_bits(n: u64, e: u32) -> u32
     if n == 0 {
         return 0;
     }
-    let z = u64::leading_zeros(n);
+    let z = n.leading_zeros();
     let m = n << (z - 1);
     (e - z) * 8388608 + ((m + 274877906943 + m / 549755813888 % 2) / 549755813888) as u32
 }

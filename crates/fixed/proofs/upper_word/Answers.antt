@@ -57,15 +57,6 @@ module _ (c : goal.Start) where
   sum : n / 4294967296 * 2 ^ s + n % 4294967296 / 2 / 2 ^ (31 - s) ≡ n * 2 ^ s / 4294967296
   sum = rw twice (both n (2 ^ s) (2 ^ (32 - s)) (pow_pos s) (pow_pos (32 - s)) split c.requires.0)
 
-pub overflow_shl-result : goal.overflow_shl-result
-overflow_shl-result c = c.requires.1
-
-pub overflow_sub-result : goal.overflow_sub-result
-overflow_sub-result c = let h = c.requires.1 in omega arith
-
-pub overflow_shr-result : goal.overflow_shr-result
-overflow_shr-result c = let h = c.requires.1 in omega arith
-
 pub overflow_add-result : goal.overflow_add-result
 overflow_add-result c = rw (mod-eq_of_lt (high c), sum c) (let w = c.requires.0 in omega arith)
 

@@ -1,15 +1,9 @@
 -- `logs::fixed_bits` meets its contract: what wraps comes out right, since the value is a word. Assumes nothing.
-use Rattle.std.proofs.Common.{◌≡◌, ℕ, ◌+◌, ◌-◌, ◌*◌, ◌%◌, ◌<◌, ◌≤◌, refl, ap, inl, inr, le_of_lt, mul-le-mul, arith, rules}
+use Rattle.std.proofs.Common.{◌≡◌, ℕ, ◌+◌, ◌-◌, ◌*◌, ◌%◌, ◌<◌, ◌≤◌, refl, ap, inl, inr, arith}
 use Rattle.units.proofs.Naturals.{le-or-lt}
 use Rattle.logs.specs.Value.{nearer, Upper, fixed_bits}
 use Rattle.logs.proofs.Reduction.{no_borrow, octave}
 use Rattle.logs.proofs.fixed_bits.Goals as goal
-
-pub overflow_mul-d : goal.overflow_mul-d
-overflow_mul-d c = omega (arith, most c.wrapping_sub_u32-d.result c.slope-p.result (search rules) (search rules))
-  where
-    most : (x y : ℕ) → x < 4294967296 → y < 4294967296 → x * y ≤ 4294967296 * 4294967295
-    most x y h k = mul-le-mul {m₂ = 4294967295} (le_of_lt h) (omega arith)
 
 -- over plain numbers: p is the slope, e the nearer exponent, d the distance that wraps, h the upper word
 joined : (b p e d h w v : ℕ) → b < 2147483648 → e * 8388608 < 4294967296 → p < 4294967296 → d < 4294967296 → h < 4294967296
@@ -33,6 +27,6 @@ returns c =
     let e = c.slope-p.ensures in
     let o = (octave b).1 in
     let l = c.requires in
-    joined b c.slope-p.result (nearer b) c.wrapping_sub_u32-d.result c.upper-h.result c.wrapping_add_u64.result (fixed_bits b)
-    l (omega arith) (search rules) (search rules) (search rules) c.wrapping_sub_u32-d.ensures.value c.upper-h.ensures
-    (rw e (no_borrow b)) (rw e refl) (omega arith) c.wrapping_add_u64.ensures.value
+    rw (c.from.ensures, c.from-2.ensures, c.from-3.ensures)
+    (joined b c.slope-p.result (nearer b) ((b + (4294967296 - nearer b * 8388608)) % 4294967296) c.upper-h.result _ (fixed_bits b)
+    l (omega arith) c.slope-p.type_inv (omega arith) c.upper-h.type_inv (omega arith) c.upper-h.ensures (rw e (no_borrow b)) (rw e refl) (omega arith) refl)

@@ -1,9 +1,10 @@
 -- `logs::in_range` tells whether x is finite and at least 2 ^ -126. Assumes nothing.
-use Rattle.std.proofs.Common.{◌≡◌, ◌%◌, ◌<◌, ◌≤◌, T, sym, refl, subst, inl, true≢false, arith, ltb-false, ltb-true}
-use lib.Ieee.{Float, binary32, fits, to_bits}
+use Rattle.std.proofs.Common.{◌≡◌, ℕ, ◌%◌, ◌<◌, ◌≤◌, Bool, true, false, not, ◌&&◌, is_le, is_lt, nat_cmp, T, sym, refl, ap, ◌∙◌, subst, inl, true≢false, arith, rules}
+use Rattle.std.proofs.lemmas.Grind.{common_steps}
+use lib.Ieee.{Float, binary32, fits, ne, to_bits}
 use Rattle.units.proofs.Patterns.{Shape, finite_below, beyond}
 use Rattle.units.proofs.Between.{sign_clear}
-use Rattle.fixed.proofs.Take.{equal_to_itself, no_number}
+use Rattle.fixed.proofs.Take.{no_number}
 use Rattle.logs.specs.Log2.{Accepts}
 use Rattle.logs.proofs.Reduction.{normal_bits, bits_few}
 use Rattle.logs.proofs.in_range.Goals as goal
@@ -19,19 +20,25 @@ accepted x f low high =
     let n = finite_below x f (omega arith) in
     record { number = n; at_least_zero = (sign_clear x n (omega arith)).1; normal = beyond 8388607 0 subnormal x n (omega arith) }
 
+-- what the test of the range tells
+module _ (low high b : ℕ) (r : Bool) (test : r ≡ (is_le (nat_cmp low b) && is_lt (nat_cmp b high))) where
+  within : r ≡ true → (low ≤ b) × (b < high)
+  within e = search (rules, common_steps)
+
+  outside : r ≡ false → low ≤ b → b < high → ⊥
+  outside e l h = grind (arith, common_steps)
+
 pub returns-then-x : goal.returns-then-x
-returns-then-x c = record { if_true = λ e. absurd (true≢false (sym e)); if_false = λ e a. no_number c.args.x c.if-x.true a.number }
-
-pub float_to_bits-b : goal.float_to_bits-b
-float_to_bits-b c = equal_to_itself c.args.x c.if-x.false
-
-pub returns-then-b-lt8388608 : goal.returns-then-b-lt8388608
-returns-then-b-lt8388608 c = record { if_true = λ e. absurd (true≢false (sym e)); if_false = λ e a. omega (arith, normal_bits c.args.x a) }
-
-pub returns : goal.returns
-returns c =
+returns-then-x c =
     let x = c.args.x in
     record {
-      if_true = λ e. accepted x (subst T (sym c.well_formed.0.1) tt) c.if-b-lt8388608.false (omega (arith, ltb-true));
-      if_false = λ e a. omega (arith, bits_few x a, ltb-false);
+      if_true = λ e. let (low, high) = within _ _ (to_bits binary32 x) _ c.contains.ensures.value e in accepted x (subst T (sym c.well_formed.0.1) tt) (omega (arith, low)) (omega (arith, high));
+      if_false = λ e a. let out = outside _ _ (to_bits binary32 x) _ c.contains.ensures.value e in out (omega (arith, normal_bits x a)) (omega (arith, bits_few x a));
     }
+
+pub returns-else-x : goal.returns-else-x
+unfolding ne
+returns-else-x c = record {
+  if_true = λ e. absurd (true≢false (sym e ∙ c.if-x.false));
+  if_false = λ e a. no_number c.args.x (ap not c.if-x.false) a.number;
+}

@@ -10,15 +10,6 @@ use Rattle.fixed.proofs.division.quotient.Goals as goal
 both : (c : goal.Start) → Shifted c.args.n c.args.d (count_leading_zeros 32 c.args.d)
 both c = shifted c.args.n c.args.d c.ranges.d.fits c.requires
 
-pub overflow_shl-v : goal.overflow_shl-v
-overflow_shl-v c = omega (arith, (both c).small)
-
-pub overflow_cast-m : goal.overflow_cast-m
-overflow_cast-m c = omega (arith, (both c).small)
-
-pub overflow_shl-m : goal.overflow_shl-m
-overflow_shl-m c = omega (arith, (both c).small)
-
 pub digit-h-requires : goal.digit-h-requires
 digit-h-requires c = let b = both c in rw (b.divisor, b.number) (b.top, b.less, search rules)
 
