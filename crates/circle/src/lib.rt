@@ -1,5 +1,5 @@
-// Sine and cosine, of x and of pi x: whole numbers inside, one rounding at the end. An angle is its phase, a whole number of
-// 2^-64 turns.
+// Sine and cosine, of x and of pi x: whole numbers inside, one rounding at the end. An angle is its phase, a whole number
+// of 2^-64 turns.
 
 #![tactic(auto)]
 
@@ -31,8 +31,8 @@ fn step(c: u32, p: u32, z: u32) -> u32
     c - fixed::upper_product(p, z)
 }
 
-// The sine of w / 2^32 quarter turns, in units of 2^-32: seven products of two 32-bit numbers. Its steps stand one by one: that no
-// step falls below zero is a fact of each two coefficients, which a fold over them would have to be told beside them.
+// The sine of w / 2^32 quarter turns, in units of 2^-32: seven products of two 32-bit numbers. Its steps stand one by one:
+// that none falls below zero is a fact of two neighbours among the coefficients, which a fold would need told for each.
 fn quarter_sine(w: u32) -> u64
     ensures { result ≡ quarter_sine w }
 {
@@ -46,6 +46,7 @@ fn quarter_sine(w: u32) -> u64
 }
 
 // How far the phase is into its quarter; in the second and the fourth, how far it is from the quarter's end.
+#[tactic(auto, unfolding(crate::specs::Wave::place_of, crate::specs::Wave::forward, crate::specs::Wave::into_quarter))]
 fn place(phase: u64) -> u32
     ensures { result ≡ place_of phase }
 {
@@ -57,7 +58,8 @@ fn place(phase: u64) -> u32
     }
 }
 
-// The bit pattern of the sine of a phase: the size in its quarter, and the sign of its half. Where nothing is left it is +0.
+// The bit pattern of the sine of a phase: the size in its quarter, and the sign of its half. Where nothing is left it is
+// +0.
 fn wave_bits(phase: u64) -> u32
     ensures { result ≡ wave_bits phase }
 {
@@ -80,9 +82,10 @@ impl Angle {
     fn of<F: FnOnce(u32) -> Option<u64>>(x: f32, phase_of: F) -> Result<Angle, Refusal>
         requires { (size : ℕ) → size < 2 ^ 31 → F.pre phase_of size }
         ensures { let b = to_bits binary32 x in
+            let phase_is = F.post phase_of (b % 2147483648) in
             MatchResult result
-            (λ angle. F.post phase_of (b % 2147483648) (Some angle.phase) × (cond angle.is_negative 1 0 ≡ b / 2147483648))
-            (λ refusal. (refusal ≡ OutOfRange) × (Number x → F.post phase_of (b % 2147483648) None)) }
+            (λ angle. phase_is (Some angle.phase) × (cond angle.is_negative 1 0 ≡ b / 2147483648))
+            (λ refusal. (refusal ≡ OutOfRange) × (Number x → phase_is None)) }
     {
         if x != x {
             return Err(Refusal::OutOfRange);
@@ -103,6 +106,7 @@ impl Angle {
     }
 
     // The cosine: the sine a quarter on, whatever the sign.
+    #[tactic(auto, unfolding(crate::specs::Wave::quarter_on))]
     fn cosine(self) -> u32
         ensures { result ≡ wave_bits (quarter_on self.phase) }
     {

@@ -1,5 +1,5 @@
-// The phase of an angle: how many turns it is, in units of 2^-64, whole turns left out. Angles come as the bit pattern of a
-// float's size.
+// The phase of an angle: how many turns it is, in units of 2^-64, whole turns left out. Angles come as the bit pattern of
+// a float's size.
 
 ghost use Rattle.std.specs.Prelude.{◌≡◌, ◌+◌, ◌-◌, ◌*◌, ◌/◌, ◌%◌, ◌^◌, ◌<◌, ◌≤◌, MatchOption};
 ghost use Rattle.circle.specs.Phase.{significand_of, half_turns, word_of, joined_of, window_of, radians};
@@ -18,8 +18,8 @@ const FIRST_WORD: u32 = 0x145f_306d;
 
 const FIRST_DIGITS: u64 = 0x145f_306d_c9c8_82a5;
 
-// The binary digits of 1 / (2 pi), after 64 zeros. tools/circle.py prints them. What is proved of them is one test over all
-// windows, in proofs/Window.antt.
+// The binary digits of 1 / (2 pi), after 64 zeros. tools/circle.py prints them. What is proved of them is one test over
+// all windows, in proofs/Window.antt.
 static WORDS: [u32; 8] = [
     0,
     0,
@@ -38,8 +38,9 @@ fn significand(size: u32) -> u64
     u64::from(size % 8388608 + 8388608)
 }
 
-// pi times the size, below 2^22: half as many turns. The digits are shifted to their place; above it whole turns fall out, and
-// below it the rest.
+// pi times the size, below 2^22: half as many turns. The digits are shifted to their place; above it whole turns fall out,
+// and below it the rest.
+#[tactic(auto, using(crate::proofs::Shifts::shifts), unfolding(crate::specs::Phase::half_turns))]
 pub fn half_turns(size: u32) -> Option<u64>
     ensures { MatchOption result (0x4a800000 ≤ size) (λ phase. (size < 0x4a800000) × (phase ≡ half_turns size)) }
 {
@@ -63,6 +64,7 @@ fn joined(word: u32, next: u32, s: u32) -> u32
 }
 
 // The 64 digits up to the i-th after the point.
+#[tactic(auto, unfolding(crate::specs::Phase::window_of))]
 fn window(i: u32) -> u64
     requires { (64 ≤ i) × (i < 169) }
     ensures { result ≡ window_of i }
@@ -95,6 +97,7 @@ fn turns(size: u32, w: u64) -> u64
 }
 
 // The size itself, where it is finite: its digits times the window at its exponent, which below 2^23 is a shorter one.
+#[tactic(auto, unfolding(crate::specs::Phase::radians))]
 pub fn radians(size: u32) -> Option<u64>
     ensures { MatchOption result (0x7f800000 ≤ size) (λ phase. (size < 0x7f800000) × (phase ≡ radians size)) }
 {

@@ -3,11 +3,16 @@
 
 #![tactic(auto)]
 
-ghost use Rattle.std.specs.Prelude.{◌≡◌, ◌+◌, ◌*◌, ◌≤◌, ◌<◌, ◌^◌, length};
-ghost use Rattle.units.specs.Answers.{Ends, float_bits};
+ghost use Rattle.std.specs.Prelude.{◌≡◌, ◌+◌, ◌*◌, ◌≤◌, ◌<◌, ◌^◌, length, IfErr};
+ghost use Rattle.std.specs.Result.{is_ok};
+ghost use Rattle.units.specs.declared.refusal.Refusal.TheVariants.{OutOfRange};
+ghost use Rattle.units.specs.Answers.{float_bits};
+ghost use Rattle.units.specs.Refusals.{Gives};
 ghost use Rattle.units.specs.Tests.{Tells};
 ghost use Rattle.exactsums.specs.Nearest.{NearestDot, rounded};
 ghost use Rattle.exactsums.specs.Work.{Sized, Accepted, Exponent, IsProduct, row_of, Added, Taken, number, Sticky, Digits, Small, Level, Judged, Subtracted, IsDigit, size_of, IsHead, IsClosed};
+
+use units::Refusal;
 
 // Is the float with the pattern b from 2^-40 to 2^40 in size?
 fn sized(b: u32) -> bool
@@ -21,21 +26,18 @@ fn sized(b: u32) -> bool
 fn both_sized(x: u32, y: u32) -> bool
     ensures { Tells (Sized x × Sized y) result }
 {
-    if sized(x) { sized(y) } else { false }
+    sized(x) && sized(y)
 }
 
 // Or is it 0?
 fn accepted(b: u32) -> bool
     ensures { Accepted b result }
 {
-    if b % 2147483648 == 0 {
-        return true;
-    }
-    sized(b)
+    b % 2147483648 == 0 || sized(b)
 }
 
 // A product, without its sign, in units of 2^-126: digits * 16^place.
-#[derive(Drop)]
+#[derive(Clone, Copy, Debug, PartialEq, Eq)]
 struct Product {
     digits: u64,
     place: usize,
@@ -49,7 +51,7 @@ fn times(x: u32, y: u32) -> Product
     let p = x / 8388608 % 256 + y / 8388608 % 256 - 174;
     let m = (x % 8388608 + 8388608) << (p % 4);
     Product {
-        digits: (m as u64) * ((y % 8388608 + 8388608) as u64),
+        digits: u64::from(m) * u64::from(y % 8388608 + 8388608),
         place: (p / 4) as usize,
     }
 }
@@ -72,42 +74,45 @@ fn add(x: u32, y: u32, bins: &mut [u64; 82])
 {
     let t = times(x, y);
     let k = row(x, y) + t.place;
-    bins[k] = bins[k] + t.digits;
+    bins[k] += t.digits;
 }
 
-// Adds the product of two floats, one of which may be 0; false where one is refused.
-fn take(x: u32, y: u32, bins: &mut [u64; 82]) -> bool
+// Adds the product of two floats, one of which may be 0; refused where one of them is.
+fn take(x: u32, y: u32, bins: &mut [u64; 82]) -> Result<(), Refusal>
     requires { Small 4096 bins.old }
-    ensures { Taken x y bins.old bins.new result }
+    ensures taken { Taken x y bins.old bins.new (is_ok result) }
+    ensures refusal { IfErr result (λ refusal. refusal ≡ OutOfRange) }
 {
     if both_sized(x, y) {
         add(x, y, bins);
-        return true;
+        return Ok(());
     }
-    if accepted(x) { accepted(y) } else { false }
+    if accepted(x) && accepted(y) {
+        Ok(())
+    } else {
+        Err(Refusal::OutOfRange)
+    }
 }
 
-// Adds all products to the bins: 4,096 of less than 2^51 fit. Ends with false at an element that is refused.
-fn gather(a: &[f32], b: &[f32], bins: &mut [u64; 82]) -> bool
+// Adds all products to the bins: 4,096 of less than 2^51 fit. Ends at an element that is refused. By places and with no `zip`, which
+// asks for an `Option` of two references each time: the chip's archive is compiled from the module that is laid out for 64-bit
+// addresses, and there finds them at other places. A place has 32 bits, as the chip's words have.
+fn gather(a: &[f32], b: &[f32], bins: &mut [u64; 82]) -> Result<(), Refusal>
     requires { (length a.now ≡ length b.now) × (length a.now ≤ 4096) × Level bins.old }
-    ensures { Judged a.now b.now bins.new result }
+    ensures judged { Judged a.now b.now bins.new (is_ok result) }
+    ensures refusal { IfErr result (λ refusal. refusal ≡ OutOfRange) }
 {
-    let n = a.len() as u32;
-    let mut i: u32 = 0;
-    while i < n {
+    for i in 0..a.len() as u32 {
         let k = i as usize;
         let x = fixed::bits_of(a[k]);
         let y = fixed::bits_of(b[k]);
-        if !take(x, y, bins) {
-            return false;
-        }
-        i += 1;
+        take(x, y, bins)?;
     }
-    true
+    Ok(())
 }
 
 // What is left of two rows above their digits.
-#[derive(Drop)]
+#[derive(Clone, Copy, Debug, PartialEq, Eq)]
 struct Left {
     over: u64,
     under: u64,
@@ -120,8 +125,7 @@ fn subtract(bins: &[u64; 82], digits: &mut [u32; 41]) -> Left
 {
     let mut over = 0;
     let mut under = 0;
-    let mut j: u32 = 0;
-    while j < 41 {
+    for j in 0..41u32 {
         let k = j as usize;
         let x = bins[k] + over;
         let y = bins[41 + k] + under;
@@ -129,7 +133,6 @@ fn subtract(bins: &[u64; 82], digits: &mut [u32; 41]) -> Left
         digits[k] = ((low + 16 - y % 16) % 16) as u32;
         over = x / 16;
         under = (y + 15 - low) / 16;
-        j += 1;
     }
     Left { over, under }
 }
@@ -140,11 +143,8 @@ fn rest(digits: &[u32; 41], i: u32) -> u64
     ensures { Sticky (number digits.now 0 i) result }
 {
     let mut sum = 0;
-    let mut j: u32 = 0;
-    while j < i {
-        let k = j as usize;
-        sum += digits[k];
-        j += 1;
+    for j in 0..i {
+        sum += digits[j as usize];
     }
     if sum == 0 { 0 } else { 1 }
 }
@@ -154,11 +154,11 @@ fn digit(d: u32, below: bool) -> u64
     requires { d < 16 }
     ensures { IsDigit d below result }
 {
-    if below { (15 - d) as u64 } else { d as u64 }
+    u64::from(if below { 15 - d } else { d })
 }
 
 // The first 58 binary digits or more of a number, those above the place i.
-#[derive(Drop)]
+#[derive(Clone, Copy, Debug, PartialEq, Eq)]
 struct First {
     h: u64,
     i: u32,
@@ -173,8 +173,7 @@ fn head(top: u64, digits: &[u32; 41], below: bool) -> First
     let mut i: u32 = 41;
     while 0 < i && h < 144115188075855872 {
         i -= 1;
-        let k = i as usize;
-        h = 16 * h + digit(digits[k], below);
+        h = 16 * h + digit(digits[i as usize], below);
     }
     First { h, i }
 }
@@ -212,21 +211,18 @@ fn difference(bins: &[u64; 82]) -> u32
     2147483648 + rounded(d.under - d.over - 1, &digits, true)
 }
 
-// The float nearest to the sum of the products a_i b_i; code 2 or 1 and nothing written where lengths or an element are refused.
+// The float nearest to the sum of the products a_i b_i; refused where lengths or an element are.
 // Each bin starts at 1: only the difference of the rows counts, and an array of zeros would be cleared by a call out of the archive.
-pub fn dot_nearest(a: &[f32], b: &[f32], out: &mut u32) -> u32
-    ensures { Ends float_bits (NearestDot a.now b.now) result out.old out.new }
+pub fn dot_nearest(a: &[f32], b: &[f32]) -> Result<u32, Refusal>
+    ensures { Gives float_bits (NearestDot a.now b.now) result }
 {
     if a.len() != b.len() {
-        return 2;
+        return Err(Refusal::BadLength);
     }
     if 4096 < a.len() {
-        return 2;
+        return Err(Refusal::BadLength);
     }
     let mut bins = [1u64; 82];
-    if !gather(a, b, &mut bins) {
-        return 1;
-    }
-    *out = difference(&bins);
-    0
+    gather(a, b, &mut bins)?;
+    Ok(difference(&bins))
 }

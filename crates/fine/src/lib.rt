@@ -1,14 +1,15 @@
-// 2^t - 1 for a fraction t, to 58 digits after the point: by Horner's rule on the power series, in words of 64 bits out of products of 32. It
-// takes ten times what a power in 32 digits takes, and is asked where that leaves open which float is the nearest.
+// 2^t - 1 for a fraction t, to 58 digits after the point: by Horner's rule on the power series, in words of 64 bits out
+// of products of 32. It takes ten times what a power in 32 digits takes, and is asked where that leaves open which
+// float is the nearest.
 
 #![tactic(auto)]
 
 ghost use Rattle.std.specs.Prelude.{◌≡◌, ◌*◌, ◌/◌, ◌^◌, ◌≤◌};
 ghost use Rattle.fine.specs.Value.{fine_of};
 
-// The power series of 2^t after the 1, in units of 2^-64, cut off, the highest power first; tools/enclosure.py finds the coefficients. Up to
-// some power what is made of them is one word, and two of a product's four parts are enough. The loops over them are unrolled: no table is
-// left in the machine code.
+// The power series of 2^t after the 1, in units of 2^-64, cut off, the highest power first; tools/enclosure.py finds
+// the coefficients. Up to some power what is made of them is one word, and two of a product's four parts are enough.
+// The loops over them are unrolled: no table is left in the machine code.
 const FIRST: u32 = 0x66;
 
 static SHORT: [u32; 5] = [0x9c7, 0xe1b7, 0x13_1496, 0x181_6193, 0x1c3b_d650];
@@ -27,7 +28,8 @@ static LONG: [u64; 11] = [
     0xb172_17f7_d1cf_79ab,
 ];
 
-// The upper half of a product of two words of 64 bits.
+// The upper half of a product of two words of 64 bits: of three of its four parts with what they carry, which one
+// `fixed::upper_product` is too short for.
 fn upper(p: u64, t: u64) -> u64
     ensures value { result ≡ p * t / 2 ^ 64 }
     ensures below { result ≤ p }

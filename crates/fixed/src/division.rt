@@ -10,8 +10,8 @@ struct Divided {
     r: u32,
 }
 
-// One digit, the quotient of r * 2^16 + b by a divisor with its top bit set. The first one tried is never too large, and
-// at most 2 too small.
+// One digit, the quotient of r * 2^16 + b by a divisor with its top bit set. The first one tried is never too large,
+// and at most 2 too small.
 fn digit(r: u32, b: u32, d: u32) -> Divided
     requires { (2 ^ 31 ≤ d) × (r < d) × (b < 65536) }
     ensures { IsQuotient (r * 65536 + b) d result.q result.r × (result.q < 65536) }
@@ -52,8 +52,8 @@ pub fn quotient_of_next(n: u64, d: u32) -> u32
     requires { n < (d + 1) * 4294967296 }
     ensures { result ≡ n / (d + 1) }
 {
-    if d < 0xffff_ffff {
-        return quotient(n, d + 1);
+    match d.checked_add(1) {
+        Some(next) => quotient(n, next),
+        None => (n / 4294967296) as u32,
     }
-    (n / 4294967296) as u32
 }

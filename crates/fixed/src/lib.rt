@@ -12,8 +12,8 @@ ghost use Rattle.units.specs.Units.{Positive};
 ghost use Rattle.fixed.specs.Parts.{Apart};
 ghost use Rattle.fixed.specs.Rounded.{Normal, nearest_bits, even_bits};
 
-// The bit pattern of every float, 0x7fc00000 of a NaN. That one comparison is all that is asked of the float unit, and none of its modes
-// disturbs it: rounding, subnormals that are read as zero.
+// The bit pattern of every float, 0x7fc00000 of a NaN. That one comparison is all that is asked of the float unit, and
+// none of its modes disturbs it: rounding, subnormals that are read as zero.
 pub fn bits_of(x: f32) -> u32
     ensures { result ≡ to_bits binary32 x }
 {
@@ -67,11 +67,12 @@ pub fn apart(x: f32) -> Parts
     }
 }
 
-// The first 32 digits m of a number, and how many zeros e of 64 stand before them: of zero there are none. The digits are those of one word,
-// the upper one where it is not zero: a chip of 32 bits has no shift of 64.
+// The first 32 digits m of a number, and how many zeros e of 64 stand before them: of zero there are none. The digits
+// are those of one word, the upper one where it is not zero: a chip of 32 bits has no shift of 64.
 #[inline]
 fn first_digits(n: u64) -> Option<Parts>
-    ensures { MatchOption result (n ≡ 0) (λ first. (0 < n) × (first.m ≡ n * 2 ^ count_leading_zeros 64 n / 4294967296) × (first.e ≡ count_leading_zeros 64 n)) }
+    ensures { let z = count_leading_zeros 64 n in
+        MatchOption result (n ≡ 0) (λ first. (0 < n) × (first.m ≡ n * 2 ^ z / 4294967296) × (first.e ≡ z)) }
 {
     let h = (n / 4294967296) as u32;
     if 0 < h {
@@ -103,8 +104,8 @@ pub fn first_word(n: u64) -> Parts
     }
 }
 
-// The bit pattern of the float nearest to n * 2 ^ (e - 40) units: the first 25 digits of n, and one of them rounded off. A carry runs into
-// the exponent.
+// The bit pattern of the float nearest to n * 2 ^ (e - 40) units: the first 25 digits of n, and one of them rounded
+// off. A carry runs into the exponent.
 pub fn nearest_bits(n: u64, e: u32) -> u32
     requires { Normal n e }
     ensures { result ≡ nearest_bits n e }
@@ -115,7 +116,8 @@ pub fn nearest_bits(n: u64, e: u32) -> u32
     }
 }
 
-// The same with ties to even, for n of at most 63 digits: half a digit less one is added, and one more where the digits are odd.
+// The same with ties to even, for n of at most 63 digits: half a digit less one is added, and one more where the digits
+// are odd.
 pub fn even_bits(n: u64, e: u32) -> u32
     requires { Normal n e × (n < 2 ^ 63) }
     ensures { result ≡ even_bits n e }

@@ -115,7 +115,8 @@ module _ (n c : ℕ) (pos : 0 < n) (few : n < 2 ^ 63) (e : n ≡ c * 2 ^ 54) whe
       over u d h = omega (arith, ap (λ (i : ℕ). i * d) e)
 
 -- the parts put together
-pub together : (b w n m e d : ℕ) {r : ℕ} → n ≡ distance_of w → (m ≡ n * 2 ^ count_leading_zeros 64 n / 4294967296) × (e ≡ count_leading_zeros 64 n)
+pub together : (b w n m e d : ℕ) {r : ℕ} → n ≡ distance_of w
+    → (m ≡ n * 2 ^ count_leading_zeros 64 n / 4294967296) × (e ≡ count_leading_zeros 64 n)
     → d ≡ log2_digits b w m e → 0 < n → r ≡ sign_of w + ((135 - e) * 8388608 + d) → r ≡ rounded_bits b w
 unfolding sign_of first_word
 together b w n m e d q (s, t) v pos p = p ∙ rw (v, s, t, q) (sym (some_bits b w (subst (λ (i : ℕ). 0 < i) q pos)))

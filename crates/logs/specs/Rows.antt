@@ -1,4 +1,5 @@
--- The polynomials of the logarithm, a row of coefficients for each sixteenth of an octave: what src/rows.rt holds. A reader of the promises need not read this. Definitions only.
+-- The polynomials of the logarithm, a row of coefficients for each sixteenth of an octave: what src/rows.rt holds. A
+-- reader of the promises need not read this. Definitions only.
 use Rattle.std.specs.Prelude.{ℕ, ◌-◌, ◌^◌, ◌<◌, List, [], ◌∷◌, slice_index_or, All}
 
 -- lowest coefficient first, in units of 2 ^ -31, for the powers of the distance to the sixteenth's upper end

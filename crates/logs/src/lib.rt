@@ -9,7 +9,8 @@ ghost use Rattle.units.specs.Answers.{float_bits};
 ghost use Rattle.units.specs.Refusals.{Gives};
 ghost use Rattle.units.specs.Tests.{Tells};
 ghost use Rattle.logs.specs.Log2.{Accepts, Log2};
-ghost use Rattle.logs.specs.Value.{slope, Upper, fixed_bits, log_of_one, distance_of, sign_of, width_of, is_left_open, fraction_of, settled_digits, log2_digits, rounded_bits};
+ghost use Rattle.logs.specs.Value.{slope, Upper, fixed_bits, log_of_one, distance_of, sign_of, width_of};
+ghost use Rattle.logs.specs.Value.{is_left_open, fraction_of, settled_digits, log2_digits, rounded_bits};
 ghost use Rattle.logs.specs.Fixed.{FixedLog2};
 
 use fixed::Parts;
@@ -19,7 +20,8 @@ use units::Refusal;
 // log2 1 in fixed point: 127 in steps of 2 ^ -54.
 const AT_ONE: u64 = 0x1fc0_0000_0000_0000;
 
-// The logarithm over the distance from the nearer power of two: the row of the sixteenth, at the distance from its upper end.
+// The logarithm over the distance from the nearer power of two: the row of the sixteenth, at the distance from its
+// upper end.
 #[tactic(auto, unfolding(crate::specs::Value::slope))]
 fn slope(b: u32) -> u32
     ensures { result ≡ slope b }
@@ -38,9 +40,9 @@ fn upper(b: u32, k: u32, p: u32) -> u32
     }
 }
 
-// log2 x + 127 in steps of 2 ^ -54, by the pattern b of x: the exponent of the nearer power of two, and slope times distance. With k for
-// the pattern of that power, the distance is b - k, of either sign, so that both sides of the cut are one formula: one that is negative
-// wraps, and its product has the slope too much in the upper word.
+// log2 x + 127 in steps of 2 ^ -54, by the pattern b of x: the exponent of the nearer power of two, and slope times
+// distance. With k for the pattern of that power, the distance is b - k, of either sign, so that both sides of the cut
+// are one formula: one that is negative wraps, and its product has the slope too much in the upper word.
 pub fn fixed_bits(b: u32) -> u64
     requires { b < 2 ^ 31 }
     ensures { result ≡ fixed_bits b }
@@ -60,16 +62,18 @@ pub fn fixed_log2(x: f32) -> u64
     fixed_bits(x.to_bits())
 }
 
-// How near a middle has to be to the first 32 digits for them to leave the 24 open, in the last of them: z zeros stand before them.
+// How near a middle has to be to the first 32 digits for them to leave the 24 open, in the last of them: z zeros stand
+// before them.
 #[tactic(auto, unfolding(crate::specs::Value::width_of))]
 fn width(z: u32) -> u32
-    ensures { result ≡ width_of z }
+    ensures value { result ≡ width_of z }
+    ensures most { result ≤ 8 }
 {
     if z < 10 { 2 } else { 8 }
 }
 
-// A logarithm before it is rounded: of the float with the pattern b, and w in fixed point. Of its size, `first` has the first 32 digits m,
-// and how many zeros e stand before them.
+// A logarithm before it is rounded: of the float with the pattern b, and w in fixed point. Of its size, `first` has the
+// first 32 digits m, and how many zeros e stand before them.
 #[derive(Clone, Copy)]
 struct Unrounded {
     b: u32,
@@ -99,8 +103,8 @@ impl Unrounded {
         if self.is_negative() { 0x8000_0000 } else { 0 }
     }
 
-    // The middle of two floats that is near the first digits: its fraction in units of 2^-64, of a negative logarithm what that lacks to 1.
-    // Digits before the point run over 64 bits.
+    // The middle of two floats that is near the first digits: its fraction in units of 2^-64, of a negative logarithm
+    // what that lacks to 1. Digits before the point run over 64 bits.
     #[tactic(auto, unfolding(crate::specs::Value::fraction_of))]
     fn fraction(self, first: Parts) -> u64
         requires { first.e ≤ 49 }
@@ -114,8 +118,8 @@ impl Unrounded {
         }
     }
 
-    // The digits where the first 32 leave them open: x against the power of that middle, in 2 of 100 calls, and in 6 where the logarithm
-    // is below 1 in size.
+    // The digits where the first 32 leave them open: x against the power of that middle, in 2 of 100 calls, and in 6
+    // where the logarithm is below 1 in size.
     #[tactic(auto, unfolding(crate::specs::Value::settled_digits, crate::specs::Value::is_above))]
     fn settled(self, first: Parts) -> u32
         requires { first.e ≤ 49 }
@@ -131,7 +135,7 @@ impl Unrounded {
     }
 
     // The 24 digits.
-    #[tactic(auto, using(crate::proofs::Told::width_most), unfolding(crate::specs::Value::log2_digits, crate::specs::Value::is_left_open))]
+    #[tactic(auto, unfolding(crate::specs::Value::log2_digits, crate::specs::Value::is_left_open))]
     fn digits(self, first: Parts) -> u32
         requires { is_left_open first.m (width_of first.e) ≡ true → first.e ≤ 49 }
         ensures { result ≡ log2_digits self.b self.w first.m first.e }
@@ -144,7 +148,8 @@ impl Unrounded {
         }
     }
 
-    // Sign, exponent and digits of its float: a step of 2 ^ -54 is 2 ^ 95 units. A carry of the digits runs into the exponent.
+    // Sign, exponent and digits of its float: a step of 2 ^ -54 is 2 ^ 95 units. A carry of the digits runs into the
+    // exponent.
     #[tactic(auto, using(crate::proofs::Rounding::sign_few))]
     fn put_together(self, zeros: u32, digits: u32) -> u32
         requires { (zeros ≤ 63) × (digits ≤ 2 ^ 24) }
@@ -166,8 +171,8 @@ impl Unrounded {
         self.put_together(first.e, self.digits(first))
     }
 
-    // The same, and at once where the first digits are no more than 2^-22 away from 0 nor 8 from a middle: they tell what the float is, in
-    // 15 of 16 calls.
+    // The same, and at once where the first digits are no more than 2^-22 away from 0 nor 8 from a middle: they tell
+    // what the float is, in 15 of 16 calls.
     fn rounded(self) -> u32
         requires { self.w < 2 ^ 63 }
         ensures { result ≡ rounded_bits self.b self.w }

@@ -1,5 +1,5 @@
-// The polynomials of the logarithm: a row of coefficients for each sixteenth of an octave. tools/log2_rows.py finds them. What is proved of
-// them is one test over all rows, in proofs/Method.antt.
+// The polynomials of the logarithm: a row of coefficients for each sixteenth of an octave. tools/log2_rows.py finds
+// them. What is proved of them is one test over all rows, in proofs/Method.antt.
 
 ghost use Rattle.std.specs.Prelude.{◌≡◌, ◌^◌, ◌<◌, ◌≤◌};
 ghost use Rattle.fixed.specs.Horner.{horner};
@@ -44,7 +44,8 @@ impl Row {
         }
     }
 
-    // Its value at v, by Horner's rule: each product of two words is cut off to its upper half, which is below v.
+    // Its value at v, by Horner's rule: each product of two words is cut off to its upper half, which is below v. The
+    // steps are written out: of a `fold` over the reversed row the check doesn't see that the sum fits at each turn.
     pub fn at(self, v: u32) -> u32
         requires { v ≤ 2 ^ 28 }
         ensures { result ≡ horner 4294967296 self.coefficients v }

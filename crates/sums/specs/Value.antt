@@ -4,11 +4,6 @@ use Rattle.std.specs.Float.{nan, binary32}
 use Rattle.std.specs.Float.Ieee.{of_bits, add, mul}
 use Rattle.sums.specs.Dot.{dot_of}
 
--- both lists have n elements at least
-pub record Long (n : ℕ) (a b : List Float) : Type 0 where
-  pub first : n ≤ length a
-  pub second : n ≤ length b
-
 -- the first 2 ^ k products, added in pairs: those of the first half and those of the second
 unfoldable pub block_of : ℕ → List Float → List Float → Float
 block_of zero a b = mul binary32 (get_or a 0 nan) (get_or b 0 nan)

@@ -22,7 +22,9 @@ pub returns : goal.returns
 unfolding slope_of quarter_sine
 returns c =
     let w = c.args.w in
-    rw (c.from.ensures, c.from-2.ensures, c.upper_product.ensures.value, made (goal.at.returns c).After-step-p1, c.upper_product-z.ensures.value)
+    let last = c.upper_product.ensures.value in
+    let rest = made (goal.at.returns c).After-step-p1 in
+    rw (c.from.ensures, c.from-2.ensures, last, rest, c.upper_product-z.ensures.value)
     (ap (λ (p : ℕ). w * (kernel_first - p) / 2147483648) (halved _))
   where
     halved : (n : ℕ) → n / 4294967296 / 2 ≡ n / 8589934592

@@ -26,9 +26,6 @@ bounds-bins-k c = room (goal.at.bounds-bins-k c).After-row
 pub overflow_add-bins : goal.overflow_add-bins
 overflow_add-bins c = omega (arith, c.requires.2.each (c.row.result + c.times-t.result.place), c.times-t.ensures.small)
 
-pub offset_bounds-bins-k-2 : goal.offset_bounds-bins-k-2
-offset_bounds-bins-k-2 c = omega (arith, room (goal.at.offset_bounds-bins-k-2 c).After-row)
-
 pub bounds-bins-k-2 : goal.bounds-bins-k-2
 bounds-bins-k-2 c = room (goal.at.bounds-bins-k-2 c).After-row
 

@@ -1,11 +1,7 @@
--- `exactsums::gather` meets its contract. The loop's invariant: the elements passed are accepted, and what is in the bins and what is to come are the whole sum. Assumes nothing.
-use Prim.Native.Nat.{◌-◌}
-use lib.ListN.{length}
+-- `exactsums::gather` meets its contract. The loop's invariant: the elements passed are accepted, and what is in the bins and what is to
+-- come are the whole sum. Assumes nothing.
 use Rattle.exactsums.proofs.Gathering.{Underway}
 use Rattle.exactsums.proofs.gather.Given as goal
 
 abbrev pub invariant-loop-i : goal.invariant-loop-i
 invariant-loop-i l = Underway l.a l.b l.bins l.i
-
-abbrev pub decreases-loop-i : goal.decreases-loop-i
-decreases-loop-i l = length l.a - l.i

@@ -28,8 +28,8 @@ overflow_sub-i c = c.loop-i-test.true
 pub overflow_mul-h : goal.overflow_mul-h
 overflow_mul-h c = omega (arith, c.if-h-lt144115188075855872.true)
 
-pub bounds-digits-k : goal.bounds-digits-k
-bounds-digits-k c = inside c.loop-i.invariant.0 c.loop-i-test.true
+pub bounds-digits-i : goal.bounds-digits-i
+bounds-digits-i c = inside c.loop-i.invariant.0 c.loop-i-test.true
 
 pub digit-requires : goal.digit-requires
 digit-requires c = c.requires.0.each (c.loop-i.i - 1)

@@ -1,6 +1,6 @@
 -- `exactsums::subtract` meets its contract. The loop's invariant: so far the rows differ by the digits, what was carried and what was borrowed. Assumes nothing.
 use mathlib.Core.Path.{◌≡◌}
-use Prim.Native.Nat.{◌+◌, ◌-◌, ◌*◌, ◌^◌, ◌≤◌}
+use Prim.Native.Nat.{◌+◌, ◌*◌, ◌^◌, ◌≤◌}
 use Rattle.exactsums.specs.Work.{number, Digits}
 use Rattle.exactsums.proofs.subtract.Given as goal
 
@@ -8,6 +8,3 @@ abbrev pub invariant-loop-j : goal.invariant-loop-j
 invariant-loop-j l =
     (l.j ≤ 41) × (l.over ≤ 2 ^ 60) × (l.under ≤ 2 ^ 60) × Digits l.digits
     × (number l.bins 0 l.j + l.under * 16 ^ l.j ≡ number l.bins 41 l.j + (number l.digits 0 l.j + l.over * 16 ^ l.j))
-
-abbrev pub decreases-loop-j : goal.decreases-loop-j
-decreases-loop-j l = 41 - l.j

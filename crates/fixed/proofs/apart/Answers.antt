@@ -1,6 +1,6 @@
 -- `fixed::apart` meets its contract: each branch is a law of `Take`. Assumes nothing.
 use native.Mathlib.Omega.{arith}
-use Rattle.fixed.proofs.Take.{no_nan, leading_low, shift_low, apart_low, apart_high}
+use Rattle.fixed.proofs.Take.{no_nan, leading_low, apart_low, apart_high}
 use Rattle.fixed.proofs.apart.Goals as goal
 
 pub float_to_bits-b : goal.float_to_bits-b

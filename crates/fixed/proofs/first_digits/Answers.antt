@@ -1,4 +1,5 @@
--- `fixed::first_digits` meets its contract: the leading zeros are those of the upper word, where that is not zero. Assumes nothing.
+-- `fixed::first_digits` meets its contract: the leading zeros are those of the upper word, where that is not zero.
+-- Assumes nothing.
 use mathlib.Core.Path.{◌≡◌, refl, ap, ◌∙◌}
 use Prim.Native.Nat.{ℕ, ◌+◌, ◌*◌, ◌/◌, ◌%◌, ◌^◌, ◌≤◌, ◌<◌, zero-le}
 use native.Mathlib.Nat.{mod-eq_of_lt, lt_of_not-le, le_antisymm}
@@ -13,7 +14,8 @@ module _ (c : goal.Then-h-gt0) where
   abbrev n : ℕ
   n = c.args.n
 
-  zeros : (count_leading_zeros 32 (n / 4294967296) ≤ 31) × (count_leading_zeros 32 (n / 4294967296) ≡ count_leading_zeros 64 n)
+  zeros : (count_leading_zeros 32 (n / 4294967296) ≤ 31)
+      × (count_leading_zeros 32 (n / 4294967296) ≡ count_leading_zeros 64 n)
   zeros = upper_zeros n c.if-h-gt0.true (omega arith)
 
   above : 0 < n
@@ -26,7 +28,8 @@ pub upper_word-requires : goal.upper_word-requires
 upper_word-requires c = ((digits c).high, let h = (zeros c).0 in omega arith)
 
 pub returns-then-h-gt0 : goal.returns-then-h-gt0
-returns-then-h-gt0 c = (above c.before, c.upper_word.ensures ∙ ap (λ (z : ℕ). n c.before * 2 ^ z / 4294967296) (zeros c.before).1, (zeros c.before).1)
+returns-then-h-gt0 c =
+    (above c.before, c.upper_word.ensures ∙ ap (λ (z : ℕ). n c.before * 2 ^ z / 4294967296) (zeros c.before).1, (zeros c.before).1)
 
 module _ (c : goal.Else-l-eq0) where
   abbrev m : ℕ
@@ -38,7 +41,8 @@ module _ (c : goal.Else-l-eq0) where
   above_zero : 0 < m
   above_zero = lt_of_not-le (λ h. c.if-l-eq0.false (same ∙ le_antisymm h zero-le))
 
-  lower : (count_leading_zeros 32 m ≤ 31) × (m * 2 ^ count_leading_zeros 32 m < 4294967296) × (32 + count_leading_zeros 32 m ≡ count_leading_zeros 64 m)
+  lower : (count_leading_zeros 32 m ≤ 31)
+      × (m * 2 ^ count_leading_zeros 32 m < 4294967296) × (32 + count_leading_zeros 32 m ≡ count_leading_zeros 64 m)
   lower = lower_zeros m above_zero (let h = c.if-h-gt0.false in omega arith)
 
 pub overflow_shl-result : goal.overflow_shl-result

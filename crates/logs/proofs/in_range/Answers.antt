@@ -1,5 +1,6 @@
 -- `logs::in_range` tells whether x is finite and at least 2 ^ -126. Assumes nothing.
-use Rattle.std.proofs.Common.{◌≡◌, ℕ, ◌%◌, ◌<◌, ◌≤◌, Bool, true, false, not, ◌&&◌, is_le, is_lt, nat_cmp, T, sym, refl, ap, ◌∙◌, subst, inl, true≢false, arith, rules}
+use Rattle.std.proofs.Common.{◌≡◌, ℕ, ◌%◌, ◌<◌, ◌≤◌, Bool, true, false, not}
+use Rattle.std.proofs.Common.{◌&&◌, is_le, is_lt, nat_cmp, T, sym, refl, ap, ◌∙◌, subst, inl, true≢false, arith, rules}
 use Rattle.std.proofs.lemmas.Grind.{common_steps}
 use lib.Ieee.{Float, binary32, fits, ne, to_bits}
 use Rattle.units.proofs.Patterns.{Shape, finite_below, beyond}
@@ -14,11 +15,16 @@ subnormal : Shape 8388607 0
 subnormal = record { few = omega arith; first = inl refl }
 
 -- a pattern from that of 2 ^ -126 on, below the infinity's
-accepted : (x : Float) → T (fits binary32 x) → 8388608 ≤ to_bits binary32 x → to_bits binary32 x < 2139095040 → Accepts x
+accepted : (x : Float) → T (fits binary32 x) → 8388608 ≤ to_bits binary32 x → to_bits binary32 x < 2139095040
+    → Accepts x
 accepted x f low high =
     let same : to_bits binary32 x % 2147483648 ≡ to_bits binary32 x = omega arith in
     let n = finite_below x f (omega arith) in
-    record { number = n; at_least_zero = (sign_clear x n (omega arith)).1; normal = beyond 8388607 0 subnormal x n (omega arith) }
+    record {
+      number = n;
+      at_least_zero = (sign_clear x n (omega arith)).1;
+      normal = beyond 8388607 0 subnormal x n (omega arith);
+    }
 
 -- what the test of the range tells
 module _ (low high b : ℕ) (r : Bool) (test : r ≡ (is_le (nat_cmp low b) && is_lt (nat_cmp b high))) where
@@ -32,8 +38,12 @@ pub returns-then-x : goal.returns-then-x
 returns-then-x c =
     let x = c.args.x in
     record {
-      if_true = λ e. let (low, high) = within _ _ (to_bits binary32 x) _ c.contains.ensures.value e in accepted x (subst T (sym c.well_formed.0.1) tt) (omega (arith, low)) (omega (arith, high));
-      if_false = λ e a. let out = outside _ _ (to_bits binary32 x) _ c.contains.ensures.value e in out (omega (arith, normal_bits x a)) (omega (arith, bits_few x a));
+      if_true = λ e.
+          let (low, high) = within _ _ (to_bits binary32 x) _ c.contains.ensures.value e in
+          accepted x (subst T (sym c.well_formed.0.1) tt) (omega (arith, low)) (omega (arith, high));
+      if_false = λ e a.
+          let out = outside _ _ (to_bits binary32 x) _ c.contains.ensures.value e in
+          out (omega (arith, normal_bits x a)) (omega (arith, bits_few x a));
     }
 
 pub returns-else-x : goal.returns-else-x

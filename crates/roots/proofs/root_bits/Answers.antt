@@ -9,7 +9,8 @@ use Rattle.roots.proofs.root_bits.Goals as goal
 -- the significand is shifted by its exponent's parity first, and by 23 places then
 placed : (m e u : ℕ) → m < 16777216 → u ≡ m * 2 ^ (e % 2) % 4294967296 → u * 8388608 ≡ radicand m e
 placed m e u h s =
-    ap (λ (n : ℕ). n * 8388608) (s ∙ mod-eq_of_lt room) ∙ turned m (2 ^ (e % 2)) ∙ ap (λ (n : ℕ). m * n) (sym (pow-add 2 23 (e % 2)))
+    ap (λ (n : ℕ). n * 8388608) (s ∙ mod-eq_of_lt room) ∙ turned m (2 ^ (e % 2))
+    ∙ ap (λ (n : ℕ). m * n) (sym (pow-add 2 23 (e % 2)))
   where
     room : m * 2 ^ (e % 2) < 4294967296
     room = lt_of_le_of_lt (mul-le-mul (le_of_lt h) (pow_mono {i = e % 2} {j = 1} (omega arith))) (omega arith)

@@ -1,4 +1,5 @@
--- `roots::rsqrt` meets its promise: each return is an accepted float, or one that the tests show is not. Assumes nothing.
+-- `roots::rsqrt` meets its promise: each return is an accepted float, or one that the tests show is not.
+-- Assumes nothing.
 use Rattle.std.proofs.Common.{rules, T, sym, subst}
 use Rattle.units.specs.Units.{Positive}
 use Rattle.fixed.proofs.Take.{equal_to_itself, no_number}

@@ -1,4 +1,5 @@
--- `roots::sqrt` meets its promise: each return is an accepted float, or one that the tests show is not. Assumes nothing.
+-- `roots::sqrt` meets its promise: each return is an accepted float, or one that the tests show is not.
+-- Assumes nothing.
 use Rattle.std.proofs.Common.{rules, T, sym, subst, arith}
 use lib.Ieee.{binary32, fits}
 use lib.Ieee.Bits.{to_bits-lt}
@@ -6,7 +7,8 @@ use Rattle.units.specs.Units.{Positive}
 use Rattle.fixed.proofs.Take.{equal_to_itself, no_number}
 use Rattle.roots.proofs.Range.{zero_is, not-zero, positive, positive_below}
 use Rattle.roots.proofs.SquareRoot.{above_zero, success_zero, success, refusal}
-use Rattle.roots.proofs.sqrt.Goals.{Start, Joined-not-contains, then-not-contains+in_default+else-b-ge-LEAST_NORMAL, else-not-contains}
+use Rattle.roots.proofs.sqrt.Goals.{Start, Joined-not-contains, else-not-contains}
+use Rattle.roots.proofs.sqrt.Goals.{then-not-contains+in_default+else-b-ge-LEAST_NORMAL}
 use Rattle.roots.proofs.sqrt.Goals as goal
 
 in-format : (c : Start) → T (fits binary32 c.args.x)
@@ -25,8 +27,9 @@ returns-in-0 c =
 
 pub returns-in-2147483648 : goal.returns-in-2147483648
 returns-in-2147483648 c =
-    let (n, z) = zero_is c.args.x (in-format (goal.at.returns-in-2147483648 c).Start) (omega (arith, c.in-2147483648.is)) in
-    success_zero c.args.x n z (sym c.in-2147483648.is)
+    let e = c.in-2147483648.is in
+    let (n, z) = zero_is c.args.x (in-format (goal.at.returns-in-2147483648 c).Start) (omega (arith, e)) in
+    success_zero c.args.x n z (sym e)
 
 pub returns-in_default : goal.returns-in_default
 returns-in_default c =

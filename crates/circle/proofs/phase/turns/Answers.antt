@@ -1,4 +1,5 @@
--- `circle::phase::turns` meets its contract: the product is made of two, of 32 digits of the window each. Assumes nothing.
+-- `circle::phase::turns` meets its contract: the product is made of two, of 32 digits of the window each.
+-- Assumes nothing.
 use Rattle.std.proofs.Common.{◌≡◌, ℕ, ◌+◌, ◌*◌, ◌/◌, ◌%◌, ◌^◌, ap, ◌∙◌, arith}
 use Rattle.circle.proofs.phase.turns.Goals as goal
 

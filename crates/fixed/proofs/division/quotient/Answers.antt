@@ -1,7 +1,6 @@
 -- `fixed::division::quotient` meets its contract: both shifted, two digits. Assumes nothing.
 use borrow.Author.Rules.{rules}
 use Prim.Native.Nat.{◌*◌, ◌%◌, ◌^◌}
-use native.Mathlib.Omega.{arith}
 use lib.Count.{count_leading_zeros}
 use lib.Pow.{pow_pos}
 use Rattle.fixed.proofs.Dividing.{Shifted, shifted, two_digits, unshifted}

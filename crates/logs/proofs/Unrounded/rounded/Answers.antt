@@ -1,4 +1,5 @@
--- `logs::Unrounded::rounded` meets its contract: digits that are not within 8 of a middle are not open. Assumes nothing.
+-- `logs::Unrounded::rounded` meets its contract: digits that are not within 8 of a middle are not open.
+-- Assumes nothing.
 use Rattle.std.proofs.Common.{◌≡◌, ℕ, ◌+◌, ◌*◌, ◌/◌, ◌%◌, ◌≤◌, refl, arith, le-ltb}
 use Rattle.logs.specs.Value.{width_of, is_left_open, log2_digits}
 use Rattle.logs.proofs.Rounding.{together}
@@ -15,5 +16,8 @@ told b w u z test = rw (le-ltb _ _ (far u (width_of z) (width_most z) test)) ref
 
 pub returns-then-first-ge16 : goal.returns-then-first-ge16
 returns-then-first-ge16 c =
-    together c.args.self.b c.args.self.w c.distance-n.result c.first_word-first.result.m c.first_word-first.result.e _ c.distance-n.ensures c.first_word-first.ensures (told _ _ _ _ c.if-first-ge16.true)
+    let first = c.first_word-first.result in
+    together c.args.self.b c.args.self.w c.distance-n.result first.m first.e _
+    c.distance-n.ensures c.first_word-first.ensures
+    (told _ _ _ _ c.if-first-ge16.true)
     (omega (arith, c.if-n-ge4294967296.true)) c.put_together.ensures

@@ -20,13 +20,20 @@ returns-then-n-eq0 c = sym (none_bits c.args.self.b c.args.self.w (sym c.distanc
 
 pub digits-requires : goal.digits-requires
 digits-requires c = λ o.
+    let n = c.distance-n.result in
+    let h = width_of c.first_word-first.result.e in
     let e = c.first_word-first.ensures in
-    rw e.1 (le_trans (few_zeros c.distance-n.result (count_leading_zeros 64 c.distance-n.result) (width_of c.first_word-first.result.e) (width_most c.first_word-first.result.e) (rw (← e.0) o)) (omega arith))
+    let few = few_zeros n (count_leading_zeros 64 n) h (width_most c.first_word-first.result.e) (rw (← e.0) o) in
+    rw e.1 (le_trans few (omega arith))
 
 pub put_together-requires : goal.put_together-requires
-put_together-requires c = (rw c.first_word-first.ensures.1 (placed_digits c.before.before).small, rw c.digits.ensures (digits_few _ _ _ _ (omega arith)))
+put_together-requires c =
+    let small = (placed_digits c.before.before).small in
+    (rw c.first_word-first.ensures.1 small, rw c.digits.ensures (digits_few _ _ _ _ (omega arith)))
 
 pub returns : goal.returns
 returns c =
-    together c.args.self.b c.args.self.w c.distance-n.result c.first_word-first.result.m c.first_word-first.result.e _ c.distance-n.ensures c.first_word-first.ensures c.digits.ensures (above c.before.before.before)
+    let first = c.first_word-first.result in
+    together c.args.self.b c.args.self.w c.distance-n.result first.m first.e _
+    c.distance-n.ensures c.first_word-first.ensures c.digits.ensures (above c.before.before.before)
     c.put_together.ensures

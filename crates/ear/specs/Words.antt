@@ -1,0 +1,16 @@
+-- What words are, and which are bit patterns. Definitions only.
+use Rattle.std.specs.Prelude.{ℕ, ◌≤◌, ◌==◌, Bool, true, if◌then◌else◌, not, List, length}
+use Rattle.std.specs.List.{filter, slice_split}
+use Rattle.std.specs.Str.Parse.{IsNumeral}
+
+-- the byte is a space, a tab or a carriage return
+abbrev pub is_blank : ℕ → Bool
+is_blank byte = if byte == 32 then true else (if byte == 9 then true else byte == 13)
+
+-- the words of a line: what stands between blanks and is not empty
+abbrev pub words_of : List ℕ → List (List ℕ)
+words_of line = filter (λ word. not (length word == 0)) (slice_split is_blank line)
+
+-- 1 to 8 hexadecimal digits
+abbrev pub IsPattern : List ℕ → Type 0
+IsPattern bytes = IsNumeral 16 bytes × (length bytes ≤ 8)
