@@ -1,13 +1,13 @@
 -- The four promises: of an accepted x code 0 and the value, of any other code 1; and how the calls end. Assumes nothing.
 use Rattle.std.specs.Prelude.{Result, Ok, Err, MatchResult, IsOkAnd}
-use Rattle.std.proofs.Common.{◌≡◌, ℕ, ◌/◌, ◌%◌, ◌^◌, ◌<◌, ◌≤◌, sym, refl, ◌∙◌, subst, lit<, lit≤}
+use Rattle.std.proofs.Common.{arith, ◌≡◌, ℕ, ◌/◌, ◌%◌, ◌^◌, ◌<◌, ◌≤◌, sym, refl, ◌∙◌, subst, lit<, lit≤}
 use lib.Ieee.{Float, binary32, to_bits}
 use Rattle.units.specs.Units.{mag, Number}
 use Rattle.units.specs.declared.refusal.Refusal.{Refusal}
 use Rattle.units.specs.declared.refusal.Refusal.TheVariants.{OutOfRange}
-use Rattle.units.specs.Answers.{float_bits}
+use Rattle.units.specs.Answers.{Ends, float_bits}
 use Rattle.units.specs.Refusals.{Gives}
-use Rattle.units.proofs.Answers.{given, declined}
+use Rattle.units.proofs.Answers.{given, declined, untouched, err}
 use Rattle.exact.specs.Circle.{Signed, bound, Sine, Cosine, QuarterTurn}
 use Rattle.exact.proofs.Limits.{near_wider}
 use Rattle.circle.specs.Phase.{half_turns, radians}
@@ -32,18 +32,19 @@ module _ {Promise : ℕ → Float → Type 0} where
   ended : {bits : ℕ} (t : ℕ) → Promise 0 (wave (t % 2 ^ 64)) → bits ≡ wave_bits (t % 2 ^ 64) → Gives float_bits Promise (Ok bits)
   ended t p e = record { result = wave (t % 2 ^ 64); promise = p; given = e ∙ sym (wave_pattern (t % 2 ^ 64) (less t)) }
 
-  kept : (r : Float) → Promise 1 r → Gives float_bits Promise (Err OutOfRange)
-  kept r p = record { result = r; promise = p; given = tt }
+  -- nothing is written
+  kept : {before : ℕ} (r : Float) → Promise 1 r → Ends float_bits Promise 1 before before
+  kept r p = untouched 1 r (λ z. omega arith) p
 
 -- an answer that is made of another one: its value of the value, and the same refusal
-pub answered : {A : Type 0} {Promise : ℕ → Float → Type 0} {Value : A → Type 0} {Post : A → ℕ → Type 0} {Declined : Refusal → Type 0}
+pub answered : {A : Type 0} {Promise : ℕ → Float → Type 0} {Value : A → Type 0} {Post : A → ℕ → Type 0} {Declined : Type 0}
     → (from : Result A Refusal) (answer : Result ℕ Refusal)
-    → MatchResult from Value Declined → MatchResult from (λ a. IsOkAnd answer (Post a)) (λ e. answer ≡ Err e)
+    → MatchResult from Value (λ e. (e ≡ OutOfRange) × Declined) → MatchResult from (λ a. IsOkAnd answer (Post a)) (λ e. answer ≡ Err e)
     → ((a : A) (bits : ℕ) → Value a → Post a bits → Gives float_bits Promise (Ok bits))
-    → ((e : Refusal) → Declined e → Gives float_bits Promise (Err e)) → Gives float_bits Promise answer
+    → (Declined → Ends float_bits Promise 1 0 0) → Gives float_bits Promise answer
 answered (Ok a) (Ok bits) v p gives refuses = gives a bits v p
 answered (Ok a) (Err e) v p gives refuses = absurd p
-answered (Err e) answer d p gives refuses = rw p (refuses e d)
+answered (Err e) answer (is, d) p gives refuses = rw (p, is) (err OutOfRange (refuses d))
 
 -- ---- pi x
 module _ (x : Float) where
@@ -65,7 +66,7 @@ module _ (x : Float) where
   unfolding sin_pi_of half_on
   sin_pi_success a e = ended _ (sin_pi_promised a) e
 
-  pub sin_pi_refusal : ¬ AcceptsPi x → Gives float_bits (SinPi x) (Err OutOfRange)
+  pub sin_pi_refusal : {before : ℕ} → ¬ AcceptsPi x → Ends float_bits (SinPi x) 1 before before
   sin_pi_refusal n = kept (sin_pi_of x) (sin_pi_refused n)
 
   cos_pi_promised : AcceptsPi x → CosPi x 0 (cos_pi_of x)
@@ -83,7 +84,7 @@ module _ (x : Float) where
   unfolding cos_pi_of quarter_on
   cos_pi_success a e = ended _ (cos_pi_promised a) e
 
-  pub cos_pi_refusal : ¬ AcceptsPi x → Gives float_bits (CosPi x) (Err OutOfRange)
+  pub cos_pi_refusal : {before : ℕ} → ¬ AcceptsPi x → Ends float_bits (CosPi x) 1 before before
   cos_pi_refusal n = kept (cos_pi_of x) (cos_pi_refused n)
 
 -- ---- x itself
@@ -105,7 +106,7 @@ module _ (x : Float) where
   unfolding sin_of half_on
   sin_success a e = ended _ (sin_promised a) e
 
-  pub sin_refusal : ¬ Accepts x → Gives float_bits (Sin x) (Err OutOfRange)
+  pub sin_refusal : {before : ℕ} → ¬ Accepts x → Ends float_bits (Sin x) 1 before before
   sin_refusal n = kept (sin_of x) (sin_refused n)
 
   cos_promised : Accepts x → Cos x 0 (cos_of x)
@@ -122,7 +123,7 @@ module _ (x : Float) where
   unfolding cos_of quarter_on
   cos_success a e = ended _ (cos_promised a) e
 
-  pub cos_refusal : ¬ Accepts x → Gives float_bits (Cos x) (Err OutOfRange)
+  pub cos_refusal : {before : ℕ} → ¬ Accepts x → Ends float_bits (Cos x) 1 before before
   cos_refusal n = kept (cos_of x) (cos_refused n)
 
 -- ---- 1 / 2 ^ 22, which document 01 asks for, follows

@@ -1,7 +1,8 @@
 -- What words are, and which are bit patterns. Definitions only.
-use Rattle.std.specs.Prelude.{ℕ, ◌≤◌, ◌==◌, Bool, true, if◌then◌else◌, not, List, length}
-use Rattle.std.specs.List.{filter, slice_split}
-use Rattle.std.specs.Str.Parse.{IsNumeral}
+use Rattle.std.specs.Prelude.{ℕ, ◌≤◌, ◌==◌, Bool, true, if◌then◌else◌, not, List, [], ◌∷◌, ◌++◌, length, Float, from_bits}
+use Rattle.std.specs.Float.{binary32}
+use Rattle.std.specs.List.{filter, flat_map, slice_split}
+use Rattle.std.specs.Str.Parse.{IsNumeral, digits_value}
 
 -- the byte is a space, a tab or a carriage return
 abbrev pub is_blank : ℕ → Bool
@@ -14,3 +15,11 @@ words_of line = filter (λ word. not (length word == 0)) (slice_split is_blank l
 -- 1 to 8 hexadecimal digits
 abbrev pub IsPattern : List ℕ → Type 0
 IsPattern bytes = IsNumeral 16 bytes × (length bytes ≤ 8)
+
+-- the float that a word says
+abbrev pub float_of : List ℕ → Float
+float_of word = from_bits binary32 (digits_value 16 word)
+
+-- words as one line, with a blank behind each
+abbrev pub one_line : List (List ℕ) → List ℕ
+one_line words = flat_map (λ word. word ++ 32 ∷ []) words

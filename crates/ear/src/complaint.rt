@@ -70,6 +70,7 @@ impl From<AllocError> for Complaint<'_> {
     }
 }
 
+// What a `push` gives, with the value that was not stored. std has two errors of memory, and no type stands for both.
 impl<T: Drop> From<AllocFailed<T>> for Complaint<'_> {
     ghost from_gives = { λ _ complaint. complaint ≡ OutOfMemory };
 

@@ -8,7 +8,8 @@ mod complaint;
 mod functions;
 mod words;
 
-ghost use Rattle.std.specs.Prelude.{◌≡◌, ◌<◌, ◌≤◌, None, Ok, IfOk, IfSome, length, vec_len};
+ghost use Rattle.std.specs.Prelude.{◌≡◌, ◌<◌, ◌≤◌, None, Ok, IfOk, IfSome, length, map, take, vec_len};
+ghost use Rattle.ear.specs.Words.{float_of, one_line};
 
 use complaint::Complaint;
 use functions::Function;
@@ -34,7 +35,7 @@ loudness B M T C A...         the step of each A; T, C and steps in hexadecimal 
 
 // What words say, as floats.
 fn floats<'a>(alloc: Global, words: &[&'a [u8]]) -> Result<Vec<f32>, Complaint<'a>>
-    ensures each { IfOk result (λ floats. vec_len floats ≡ length words.now) }
+    ensures each { IfOk result (λ floats. floats.items ≡ map (λ word. float_of word.now) words.now) }
     ensures most { IfOk result (λ floats. vec_len floats ≤ 2048) }
 {
     let mut floats = Vec::new(alloc);
@@ -130,7 +131,8 @@ fn answer_lines(
     Ok(())
 }
 
-// Word i of the command line, if it is there. One that is empty, or of 4096 bytes or more, counts as a question mark.
+// Word i of the command line, if it is there. One that is empty, or too long for the buffer, counts as a question mark.
+// `env::args` would refuse a word that is not UTF-8, so each is asked for as bytes, which fill a buffer that is lent.
 fn argument(rt: &(impl Env + AllocGlobal), i: usize) -> Result<Option<Vec<u8>>, AllocError>
     ensures { IfOk result (λ word. IfSome word (λ bytes. 0 < vec_len bytes)) }
 {
@@ -157,7 +159,7 @@ fn arguments(rt: &(impl Env + AllocGlobal)) -> Result<Vec<Vec<u8>>, AllocError> 
 
 // Words as one line, of which no more counts than of a line of the input.
 fn line_of(alloc: Global, words: &[Vec<u8>]) -> Result<Vec<u8>, AllocError>
-    ensures { IfOk result (λ line. vec_len line ≤ 65536) }
+    ensures { IfOk result (λ line. line.items ≡ take 65536 (one_line (map (λ word. word.items) words.now))) }
 {
     let mut line = Vec::new(alloc);
     for word in words {

@@ -10,7 +10,7 @@ ghost use Rattle.units.specs.Answers.{float_bits};
 ghost use Rattle.units.specs.Refusals.{Gives};
 ghost use Rattle.units.specs.Tests.{Tells};
 ghost use Rattle.exactsums.specs.Nearest.{NearestDot, rounded};
-ghost use Rattle.exactsums.specs.Work.{Sized, Accepted, Exponent, IsProduct, row_of, Added, Taken, number, Sticky, Digits, Small, Level, Judged, Subtracted, IsDigit, size_of, IsHead, IsClosed};
+ghost use Rattle.exactsums.specs.Work.{Sized, Accepted, Exponent, IsProduct, Added, Taken, number, Sticky, Digits, Small, Level, Judged, Subtracted, IsDigit, size_of, IsHead, IsClosed};
 
 use units::Refusal;
 
@@ -56,59 +56,92 @@ fn times(x: u32, y: u32) -> Product
     }
 }
 
-// Where the row starts that the product goes to: above zero at bin 0, below at bin 41.
-fn row(x: u32, y: u32) -> usize
-    ensures { result ≡ row_of x y }
-{
-    if x / 2147483648 == y / 2147483648 {
-        0
-    } else {
-        41
-    }
+// Two rows of bins, for the products above zero and for those below, the lowest place first.
+#[derive(Drop)]
+struct Rows {
+    above: [u64; 41],
+    below: [u64; 41],
 }
 
-// Adds the product of the floats with the patterns x and y to its bin.
-fn add(x: u32, y: u32, bins: &mut [u64; 82])
-    requires { Sized x × Sized y × Small 4096 bins.old }
-    ensures { Added x y bins.old bins.new }
-{
-    let t = times(x, y);
-    let k = row(x, y) + t.place;
-    bins[k] += t.digits;
-}
-
-// Adds the product of two floats, one of which may be 0; refused where one of them is.
-fn take(x: u32, y: u32, bins: &mut [u64; 82]) -> Result<(), Refusal>
-    requires { Small 4096 bins.old }
-    ensures taken { Taken x y bins.old bins.new (is_ok result) }
-    ensures refusal { IfErr result (λ refusal. refusal ≡ OutOfRange) }
-{
-    if both_sized(x, y) {
-        add(x, y, bins);
-        return Ok(());
+impl Rows {
+    // Adds the product of the floats with the patterns x and y to its bin.
+    fn add(&mut self, x: u32, y: u32)
+        requires { Sized x × Sized y × Small 4096 self.old }
+        ensures { Added x y self.old self.new }
+    {
+        let t = times(x, y);
+        if x / 2147483648 == y / 2147483648 {
+            self.above[t.place] += t.digits;
+        } else {
+            self.below[t.place] += t.digits;
+        }
     }
-    if accepted(x) && accepted(y) {
+
+    // Adds the product of two floats, one of which may be 0; refused where one of them is.
+    fn take(&mut self, x: u32, y: u32) -> Result<(), Refusal>
+        requires { Small 4096 self.old }
+        ensures taken { Taken x y self.old self.new (is_ok result) }
+        ensures refusal { IfErr result (λ refusal. refusal ≡ OutOfRange) }
+    {
+        if both_sized(x, y) {
+            self.add(x, y);
+            return Ok(());
+        }
+        if accepted(x) && accepted(y) {
+            Ok(())
+        } else {
+            Err(Refusal::OutOfRange)
+        }
+    }
+
+    // Adds all products: 4,096 of less than 2^51 fit. Ends at an element that is refused. By places and with no `zip`, which asks for an
+    // `Option` of two references each time: the chip's archive is compiled from the module that is laid out for 64-bit addresses, and
+    // there finds them at other places. A place has 32 bits, as the chip's words have.
+    fn gather(&mut self, a: &[f32], b: &[f32]) -> Result<(), Refusal>
+        requires { (length a.now ≡ length b.now) × (length a.now ≤ 4096) × Level self.old }
+        ensures judged { Judged a.now b.now self.new (is_ok result) }
+        ensures refusal { IfErr result (λ refusal. refusal ≡ OutOfRange) }
+    {
+        for i in 0..a.len() as u32 {
+            let k = i as usize;
+            let x = fixed::bits_of(a[k]);
+            let y = fixed::bits_of(b[k]);
+            self.take(x, y)?;
+        }
         Ok(())
-    } else {
-        Err(Refusal::OutOfRange)
     }
-}
 
-// Adds all products to the bins: 4,096 of less than 2^51 fit. Ends at an element that is refused. By places and with no `zip`, which
-// asks for an `Option` of two references each time: the chip's archive is compiled from the module that is laid out for 64-bit
-// addresses, and there finds them at other places. A place has 32 bits, as the chip's words have.
-fn gather(a: &[f32], b: &[f32], bins: &mut [u64; 82]) -> Result<(), Refusal>
-    requires { (length a.now ≡ length b.now) × (length a.now ≤ 4096) × Level bins.old }
-    ensures judged { Judged a.now b.now bins.new (is_ok result) }
-    ensures refusal { IfErr result (λ refusal. refusal ≡ OutOfRange) }
-{
-    for i in 0..a.len() as u32 {
-        let k = i as usize;
-        let x = fixed::bits_of(a[k]);
-        let y = fixed::bits_of(b[k]);
-        take(x, y, bins)?;
+    // The first row less the second, as digits base 16: both are carried upward, and what is borrowed counts with the second.
+    fn subtract(&self, digits: &mut [u32; 41]) -> Left
+        requires { Small 4097 self.now × Digits digits.old }
+        ensures { Subtracted self.now digits.new result.over result.under }
+    {
+        let mut over = 0;
+        let mut under = 0;
+        for j in 0..41u32 {
+            let k = j as usize;
+            let x = self.above[k] + over;
+            let y = self.below[k] + under;
+            let low = x % 16;
+            digits[k] = ((low + 16 - y % 16) % 16) as u32;
+            over = x / 16;
+            under = (y + 15 - low) / 16;
+        }
+        Left { over, under }
     }
-    Ok(())
+
+    // The pattern of the float nearest to the difference of the rows.
+    fn difference(&self) -> u32
+        requires { Small 4097 self.now }
+        ensures { result ≡ float_bits (rounded (number self.now.above 0 41 * 2 ^ 172) (number self.now.below 0 41 * 2 ^ 172)) }
+    {
+        let mut digits = [1u32; 41];
+        let d = self.subtract(&mut digits);
+        if d.under <= d.over {
+            return rounded(d.over - d.under, &digits, false);
+        }
+        2147483648 + rounded(d.under - d.over - 1, &digits, true)
+    }
 }
 
 // What is left of two rows above their digits.
@@ -116,25 +149,6 @@ fn gather(a: &[f32], b: &[f32], bins: &mut [u64; 82]) -> Result<(), Refusal>
 struct Left {
     over: u64,
     under: u64,
-}
-
-// The first row of the bins less the second, as digits base 16: both are carried upward, and what is borrowed counts with the second.
-fn subtract(bins: &[u64; 82], digits: &mut [u32; 41]) -> Left
-    requires { Small 4097 bins.now × Digits digits.old }
-    ensures { Subtracted bins.now digits.new result.over result.under }
-{
-    let mut over = 0;
-    let mut under = 0;
-    for j in 0..41u32 {
-        let k = j as usize;
-        let x = bins[k] + over;
-        let y = bins[41 + k] + under;
-        let low = x % 16;
-        digits[k] = ((low + 16 - y % 16) % 16) as u32;
-        over = x / 16;
-        under = (y + 15 - low) / 16;
-    }
-    Left { over, under }
 }
 
 // 0 where the lowest i digits are all 0, and else 1.
@@ -198,19 +212,6 @@ fn rounded(top: u64, digits: &[u32; 41], below: bool) -> u32
     fixed::even_bits(2 * closed(t.h, s, below) + s, 62 + 4 * i)
 }
 
-// The pattern of the float nearest to the difference of the rows.
-fn difference(bins: &[u64; 82]) -> u32
-    requires { Small 4097 bins.now }
-    ensures { result ≡ float_bits (rounded (number bins.now 0 41 * 2 ^ 172) (number bins.now 41 41 * 2 ^ 172)) }
-{
-    let mut digits = [1u32; 41];
-    let d = subtract(bins, &mut digits);
-    if d.under <= d.over {
-        return rounded(d.over - d.under, &digits, false);
-    }
-    2147483648 + rounded(d.under - d.over - 1, &digits, true)
-}
-
 // The float nearest to the sum of the products a_i b_i; refused where lengths or an element are.
 // Each bin starts at 1: only the difference of the rows counts, and an array of zeros would be cleared by a call out of the archive.
 pub fn dot_nearest(a: &[f32], b: &[f32]) -> Result<u32, Refusal>
@@ -222,7 +223,10 @@ pub fn dot_nearest(a: &[f32], b: &[f32]) -> Result<u32, Refusal>
     if 4096 < a.len() {
         return Err(Refusal::BadLength);
     }
-    let mut bins = [1u64; 82];
-    gather(a, b, &mut bins)?;
-    Ok(difference(&bins))
+    let mut rows = Rows {
+        above: [1; 41],
+        below: [1; 41],
+    };
+    rows.gather(a, b)?;
+    Ok(rows.difference())
 }

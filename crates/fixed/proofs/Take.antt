@@ -100,9 +100,6 @@ module _ (x : Float) (p : Positive x) where
   pub leading_low : b < 2 ^ 23 → 8 ≤ count_leading_zeros 32 b
   leading_low h = leading b (units_above h) h
 
-  pub shift_low : b < 2 ^ 23 → count_leading_zeros 32 b - 8 ≤ 23
-  shift_low h = shift_small b (units_above h) h
-
   pub apart_low : b < 2 ^ 23 → Apart x (b * 2 ^ (count_leading_zeros 32 b - 8) % 4294967296) (24 - (count_leading_zeros 32 b - 8))
   apart_low h = apart_units b (units_above h) h x (low_is h)
 

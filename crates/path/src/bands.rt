@@ -1,104 +1,92 @@
-// The bands: six words each, the bins from lo to hi, the patterns of the levels b and m, the steps t and c.
+// The bands: six words each, the bins from low to high, the patterns of the levels b and m, the steps t and c.
 
-ghost use Rattle.std.specs.Prelude.{◌≡◌, ℕ, ◌+◌, ◌*◌, ◌/◌, ◌<◌, ◌≤◌, ◌^◌, length, get_or};
-ghost use Rattle.units.specs.Tests.{Tells};
-ghost use Rattle.path.specs.Path.{Band, Bands};
-ghost use Rattle.path.specs.Steps.{envelope_of, sum_from};
-ghost use Rattle.path.specs.Ready.{Summable, Ready, current_at, Stepped};
+ghost use Rattle.std.specs.Prelude.{◌≡◌, ◌≤◌, length, MatchResult};
+ghost use Rattle.units.specs.declared.refusal.Refusal.TheVariants.{BadChannel};
+ghost use Rattle.path.specs.Path.{Band as IsBand};
+ghost use Rattle.path.specs.Steps.{envelope_of};
+ghost use Rattle.path.specs.Ready.{Reads, AllBands, current_of, Stepped};
 
-// Whether the words of the band i make one.
-fn is_band(top: u32, bands: &[u32], i: usize) -> bool
-    requires { 6 * i + 6 ≤ length bands.now }
-    ensures { Tells (Band top bands.now i) result }
-{
-    let at = 6 * i;
-    let b = bands[at + 2];
-    let m = bands[at + 3];
-    if bands[at + 1] < bands[at] {
-        return false;
-    }
-    if 64 < bands[at + 1] {
-        return false;
-    }
-    if 0x3f80_0000 < b {
-        return false;
-    }
-    if 0x3f80_0000 < m {
-        return false;
-    }
-    loudness::is_channel(
-        top,
-        f32::from_bits(b),
-        f32::from_bits(m),
-        bands[at + 4],
-        bands[at + 5],
-    )
+use crate::sizes::Sizes;
+use loudness::{Channel, Segment};
+use units::Refusal;
+
+// The pattern of 1, and a sum of sizes that makes it.
+const ONE: u32 = 0x3f80_0000;
+
+const FULL: u64 = 0x0100_0000_0000_0000;
+
+// The bins from low to high, and the segment that maps the sum of their sizes.
+#[derive(Clone, Copy, Debug, PartialEq)]
+struct Band {
+    low: u32,
+    high: u32,
+    segment: Segment,
+    ghost order: { low ≤ high },
+    ghost bins: { high ≤ 64 },
 }
 
-// Whether all of them do.
-pub fn accepted(top: u32, bands: &[u32]) -> bool
-    ensures { Tells (Bands top bands.now (length bands.now / 6)) result }
-{
-    let n = bands.len() / 6;
-    let mut i = 0;
-    while i < n {
-        if is_band(top, bands, i) {
-            i += 1;
-        } else {
-            return false;
+impl Band {
+    // The band of six words. Refused: bins out of order or above 64, and what makes no channel of a stimulator with the steps 0 to top.
+    fn new(top: u32, words: &[u32; 6]) -> Result<Band, Refusal>
+        ensures { MatchResult result (λ band. IsBand top words.now 0 × Reads words.now band.low band.high band.segment.channel.b band.segment.channel.m band.segment.channel.t band.segment.channel.c) (λ e. (e ≡ BadChannel) × ¬ IsBand top words.now 0) }
+    {
+        let [low, high, b, m, t, c] = *words;
+        if high < low || 64 < high || ONE < b || ONE < m {
+            return Err(Refusal::BadChannel);
         }
+        let channel = Channel {
+            b: f32::from_bits(b),
+            m: f32::from_bits(m),
+            t,
+            c,
+        };
+        if !channel.suits(top) {
+            return Err(Refusal::BadChannel);
+        }
+        Ok(Band {
+            low,
+            high,
+            segment: Segment { channel },
+        })
     }
-    true
 }
 
-// The sum of the words from lo to hi.
-fn sum(y: &[u64], low: u32, high: u32) -> u64
-    requires { (low ≤ high) × (high ≤ 64) × Summable y.now }
-    ensures { result ≡ sum_from (λ k. get_or y.now k 0) low high }
+// Refused: words of which six make no band.
+pub fn accept(top: u32, bands: &[[u32; 6]]) -> Result<(), Refusal>
+    ensures { MatchResult result (λ _. AllBands top bands.now) (λ e. (e ≡ BadChannel) × ¬ AllBands top bands.now) }
 {
-    let mut s = 0;
-    let mut k = low;
-    while k <= high {
-        s += y[k as usize];
-        k += 1;
+    for words in bands {
+        Band::new(top, words)?;
     }
-    s
+    Ok(())
 }
 
 // A sum over 64 as a float, at most 1.
 fn envelope(s: u64) -> f32
     ensures { result ≡ envelope_of s }
 {
-    if 72057594037927936 <= s {
-        return f32::from_bits(0x3f80_0000);
+    if FULL <= s {
+        f32::from_bits(ONE)
+    } else {
+        f32::from_bits(fixed::nearest_bits(s, 133))
     }
-    f32::from_bits(fixed::nearest_bits(s, 133))
 }
 
-// The current of the band i.
-fn current(y: &[u64], bands: &[u32], i: usize) -> u32
-    requires { Summable y.now × Ready bands.now i }
-    ensures { result ≡ current_at y.now bands.now i }
+// The current of the band of six words that were accepted: nothing is tested again.
+fn current(top: u32, words: &[u32; 6], sizes: Sizes) -> u32
+    requires { IsBand top words.now 0 }
+    ensures { result ≡ current_of sizes.entry.words.now words.now }
 {
-    let at = 6 * i;
-    let a = envelope(sum(y, bands[at], bands[at + 1]));
-    loudness::segment_step(
-        f32::from_bits(bands[at + 2]),
-        f32::from_bits(bands[at + 3]),
-        bands[at + 4],
-        bands[at + 5],
-        a,
-    )
+    let Band { low, high, segment } = Band::new(top, words).unwrap();
+    segment.step(envelope(sizes.sum(low, high)))
 }
 
-// All of them.
-pub fn steps(y: &[u64], bands: &[u32], out: &mut [u32])
-    requires { Summable y.now × ((i : ℕ) → i < length out.old → Ready bands.now i) }
-    ensures { Stepped y.now bands.now (length out.old) out.new }
+// Those of all of them.
+pub fn steps(top: u32, bands: &[[u32; 6]], sizes: Sizes, out: &mut [u32])
+    requires { AllBands top bands.now × (length bands.now ≡ length out.old) }
+    ensures { Stepped sizes.entry.words.now bands.now (length out.old) out.new }
 {
-    let mut i = 0;
-    while i < out.len() {
-        out[i] = current(y, bands, i);
-        i += 1;
+    for (i, step) in out.iter_mut().enumerate() {
+        *step = current(top, &bands[i], sizes);
     }
 }

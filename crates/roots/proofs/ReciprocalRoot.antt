@@ -7,11 +7,11 @@ use borrow.Author.Tests.{lt-leb}
 use lib.Ieee.{Float, binary32, of_bits}
 use Rattle.units.specs.Units.{mag, P, Number, Le}
 use Rattle.units.specs.declared.refusal.Refusal.TheVariants.{OutOfRange}
-use Rattle.units.specs.Answers.{float_bits}
+use Rattle.units.specs.Answers.{Ends, float_bits}
 use Rattle.units.specs.Refusals.{Gives}
 use Rattle.units.proofs.Naturals.{le-or-lt, proportion_le, proportion_lt}
 use Rattle.units.proofs.Signs.{plus_of_lem, minus_of_lem}
-use Rattle.units.proofs.Answers.{given, declined}
+use Rattle.units.proofs.Answers.{given, declined, untouched, err}
 use Rattle.units.proofs.Bits.{Is, put_positive, no_nan_positive}
 use Rattle.units.proofs.Patterns.{pattern_back}
 use Rattle.units.specs.Units.{Positive}
@@ -344,8 +344,12 @@ success x p e = record {
   given = e ∙ sym (pattern_back _ (omega (arith, (accepted x p).0)) (no_nan_positive _ (accepted x p).0));
 }
 
-pub refusal : (x : Float) → ¬ Positive x → Gives float_bits (Rsqrt x) (Err OutOfRange)
-refusal x n = record { result = rsqrt_of x; promise = refused x n; given = tt }
+-- of any other x nothing is written
+pub refusal : (x : Float) {before : ℕ} → ¬ Positive x → Ends float_bits (Rsqrt x) 1 before before
+refusal x n = untouched 1 (rsqrt_of x) (λ z. omega arith) (refused x n)
+
+pub declines : (x : Float) → ¬ Positive x → Gives float_bits (Rsqrt x) (Err OutOfRange)
+declines x n = err OutOfRange (refusal x {before = 0} n)
 
 -- document 01's bound, relative 2 ^ -22, follows from the promise
 pub as_asked : (x r : Float) → NearRecipRoot rsqrt_error_num rsqrt_error_den x r → NearRecipRoot 1 (2 ^ 22) x r

@@ -7,10 +7,10 @@ use lib.Ieee.{Float, binary32, of_bits}
 use Rattle.units.specs.Units.{mag, P, N, Number, Le}
 use Rattle.units.proofs.Naturals.{le-or-lt}
 use Rattle.units.specs.declared.refusal.Refusal.TheVariants.{OutOfRange}
-use Rattle.units.specs.Answers.{float_bits}
+use Rattle.units.specs.Answers.{Ends, float_bits}
 use Rattle.units.specs.Refusals.{Gives}
 use Rattle.units.proofs.Signs.{size-sum, sign_plus, minus_of_lem}
-use Rattle.units.proofs.Answers.{given, declined}
+use Rattle.units.proofs.Answers.{given, declined, untouched, err}
 use Rattle.units.proofs.Bits.{Is, put_positive, no_nan_positive}
 use Rattle.units.proofs.Patterns.{pattern_back}
 use Rattle.units.specs.Units.{Positive}
@@ -269,5 +269,9 @@ success x p e =
     gives x (record { number = p.number; at_least_zero = minus_of_lem x p.sign })
     (rw (sqrt_above x p) (e ∙ sym (pattern_back _ (omega (arith, (sqrt_positive x p).0)) (no_nan_positive _ (sqrt_positive x p).0))))
 
-pub refusal : (x : Float) → ¬ Accepts x → Gives float_bits (Sqrt x) (Err OutOfRange)
-refusal x n = record { result = sqrt_of x; promise = refused x n; given = tt }
+-- of any other x nothing is written
+pub refusal : (x : Float) {before : ℕ} → ¬ Accepts x → Ends float_bits (Sqrt x) 1 before before
+refusal x n = untouched 1 (sqrt_of x) (λ z. omega arith) (refused x n)
+
+pub declines : (x : Float) → ¬ Accepts x → Gives float_bits (Sqrt x) (Err OutOfRange)
+declines x n = err OutOfRange (refusal x {before = 0} n)

@@ -60,7 +60,10 @@ fn settle_root(n: u64, guess: u32) -> u32
     if is_root(n, guess) {
         return guess;
     }
-    settle(guess, |s| u64::from(s) * u64::from(s) + u64::from(s) < n)
+    settle(
+        guess,
+        move |s| u64::from(s) * u64::from(s) + u64::from(s) < n,
+    )
 }
 
 // The same from the number alone: its first 24 digits give the guess, as a float's would.
@@ -119,7 +122,7 @@ fn settle_reciprocal(m: u32, t: u32, guess: u32) -> u32
     requires { (2 ^ 23 ≤ m) × (m < 2 ^ 24) × (1 ≤ t) × (t ≤ 2 ^ 9) × (guess < 2 ^ 26) }
     ensures { IsNearRecip (t * 2 ^ 62) m result }
 {
-    settle(guess, |h| odd_square(h, m) < t)
+    settle(guess, move |h| odd_square(h, m) < t)
 }
 
 // The reciprocal root of a float above zero, as a bit pattern: the power of two over the significand has 47 or 48 digits

@@ -19,9 +19,10 @@ pub fn transform(x: &[f32], re: &mut [u32], im: &mut [u32]) -> Result<(), Refusa
     ensures { Ends both_bits (Transform x.now (length re.old) (length im.old)) (code_in result)
         (re.old, im.old) (re.new, im.new) }
 {
-    let x = x.as_array::<128>().ok_or(Refusal::BadLength)?;
-    let re = re.as_mut_array::<65>().ok_or(Refusal::BadLength)?;
-    let im = im.as_mut_array::<65>().ok_or(Refusal::BadLength)?;
+    // No arrays are taken of the slices: compiled for 32 bits from the module of a 64-bit build, `as_array` gives none.
+    if x.len() != 128 || re.len() != 65 || im.len() != 65 {
+        return Err(Refusal::BadLength);
+    }
     let m = floats::largest(x);
     if 0x7b80_0000 <= m {
         return Err(Refusal::OutOfRange);

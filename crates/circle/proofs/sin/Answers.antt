@@ -10,4 +10,4 @@ returns c =
     let fits32 = subst T (sym c.well_formed.0.1) tt in
     answered c.of.result c.map.result c.of.ensures c.map.ensures.cases
     (λ angle bits v p. sin_success x (in_range x fits32 v.0.0) (p ∙ rw (v.0.1, v.1) refl))
-    (λ refusal n. rw n.0 (sin_refusal x (λ a. out_of_range x (n.1 a) a)))
+    (λ n. sin_refusal x {before = 0} (λ a. out_of_range x (n a) a))

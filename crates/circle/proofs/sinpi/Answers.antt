@@ -10,4 +10,4 @@ returns c =
     let fits32 = subst T (sym c.well_formed.0.1) tt in
     answered c.of.result c.map.result c.of.ensures c.map.ensures.cases
     (λ angle bits v p. sin_pi_success x (in_pi_range x fits32 v.0.0) (p ∙ rw (v.0.1, v.1) refl))
-    (λ refusal n. rw n.0 (sin_pi_refusal x (λ a. out_of_pi_range x (n.1 a.number) a)))
+    (λ n. sin_pi_refusal x {before = 0} (λ a. out_of_pi_range x (n a.number) a))

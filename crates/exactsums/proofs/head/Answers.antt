@@ -13,29 +13,11 @@ under l = omega arith
 shorter : {i : ℕ} → i ≤ 41 → i - 1 ≤ 41
 shorter l = omega arith
 
-inside : {i : ℕ} → i ≤ 41 → 0 < i → i - 1 < 41
-inside l m = omega arith
-
 more : {h d : ℕ} → h < 144115188075855872 → d < 16 → 16 * h + d < 2 ^ 61
 more l m = omega arith
 
 pub loop-i-init : goal.loop-i-init
 loop-i-init c = (omega arith, under c.requires.1, start_plus c.args.top c.args.digits.now c.args.below, start_minus c.args.top c.args.digits.now c.args.below c.requires.0)
-
-pub overflow_sub-i : goal.overflow_sub-i
-overflow_sub-i c = c.loop-i-test.true
-
-pub overflow_mul-h : goal.overflow_mul-h
-overflow_mul-h c = omega (arith, c.if-h-lt144115188075855872.true)
-
-pub bounds-digits-i : goal.bounds-digits-i
-bounds-digits-i c = inside c.loop-i.invariant.0 c.loop-i-test.true
-
-pub digit-requires : goal.digit-requires
-digit-requires c = c.requires.0.each (c.loop-i.i - 1)
-
-pub overflow_add-h : goal.overflow_add-h
-overflow_add-h c = omega (arith, c.if-h-lt144115188075855872.true, c.digit.ensures.small)
 
 pub loop-i-preserved : goal.loop-i-preserved
 loop-i-preserved c =

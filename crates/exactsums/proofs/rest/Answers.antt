@@ -12,9 +12,6 @@ pub loop-j-init : goal.loop-j-init
 unfolding number
 loop-j-init c = (omega arith, omega arith, inl (refl, refl))
 
-pub overflow_add-sum : goal.overflow_add-sum
-overflow_add-sum c = omega (arith, c.requires.0.each c.loop-j.j)
-
 pub loop-j-preserved : goal.loop-j-preserved
 loop-j-preserved c =
     let ds = c.args.digits.now in

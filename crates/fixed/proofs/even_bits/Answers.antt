@@ -42,4 +42,8 @@ overflow_add-result-2 c = omega (arith, high c)
 
 pub returns : goal.returns
 unfolding even_bits even_digits
-returns c = rw (mod-eq_of_lt {m = 18446744073709551616} (lt_of_lt_of_le (high c) (omega arith)), some c.args.n c.args.e (above_zero c)) refl
+returns c =
+    rw (
+      mod-eq_of_lt {m = 18446744073709551616} (lt_of_lt_of_le (high c) (omega arith)),
+      some c.args.n c.args.e (above_zero c),
+    ) refl

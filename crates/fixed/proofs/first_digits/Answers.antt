@@ -28,8 +28,11 @@ pub upper_word-requires : goal.upper_word-requires
 upper_word-requires c = ((digits c).high, let h = (zeros c).0 in omega arith)
 
 pub returns-then-h-gt0 : goal.returns-then-h-gt0
-returns-then-h-gt0 c =
-    (above c.before, c.upper_word.ensures ∙ ap (λ (z : ℕ). n c.before * 2 ^ z / 4294967296) (zeros c.before).1, (zeros c.before).1)
+returns-then-h-gt0 c = (
+  above c.before,
+  c.upper_word.ensures ∙ ap (λ (z : ℕ). n c.before * 2 ^ z / 4294967296) (zeros c.before).1,
+  (zeros c.before).1,
+)
 
 module _ (c : goal.Else-l-eq0) where
   abbrev m : ℕ

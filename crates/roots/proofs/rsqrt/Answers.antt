@@ -4,7 +4,7 @@ use Rattle.std.proofs.Common.{rules, T, sym, subst}
 use Rattle.units.specs.Units.{Positive}
 use Rattle.fixed.proofs.Take.{equal_to_itself, no_number}
 use Rattle.roots.proofs.Range.{positive, positive_below, positive_above}
-use Rattle.roots.proofs.ReciprocalRoot.{success, refusal}
+use Rattle.roots.proofs.ReciprocalRoot.{success, declines}
 use Rattle.roots.proofs.rsqrt.Goals.{Else-not-contains, then-x-via-then-x, then-x-via-else-x+then-not-contains}
 use Rattle.roots.proofs.rsqrt.Goals as goal
 
@@ -14,7 +14,7 @@ float_to_bits-x c = equal_to_itself c.args.x c.if-x.false
 pub returns-then-x : goal.returns-then-x
 returns-then-x c =
     let x = c.args.x in
-    refusal x (λ p. elim c.then-x.branch [
+    declines x (λ p. elim c.then-x.branch [
       | then-x-via-then-x w ↦ no_number x w.if-x.true p.number
       | then-x-via-else-x+then-not-contains w ↦
           let above = positive_above x p in

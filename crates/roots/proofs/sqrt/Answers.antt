@@ -6,7 +6,7 @@ use lib.Ieee.Bits.{to_bits-lt}
 use Rattle.units.specs.Units.{Positive}
 use Rattle.fixed.proofs.Take.{equal_to_itself, no_number}
 use Rattle.roots.proofs.Range.{zero_is, not-zero, positive, positive_below}
-use Rattle.roots.proofs.SquareRoot.{above_zero, success_zero, success, refusal}
+use Rattle.roots.proofs.SquareRoot.{above_zero, success_zero, success, declines}
 use Rattle.roots.proofs.sqrt.Goals.{Start, Joined-not-contains, else-not-contains}
 use Rattle.roots.proofs.sqrt.Goals.{then-not-contains+in_default+else-b-ge-LEAST_NORMAL}
 use Rattle.roots.proofs.sqrt.Goals as goal
@@ -15,7 +15,7 @@ in-format : (c : Start) → T (fits binary32 c.args.x)
 in-format c = subst T (sym c.well_formed.0.1) tt
 
 pub returns-then-x : goal.returns-then-x
-returns-then-x c = refusal c.args.x (λ a. no_number c.args.x c.if-x.true a.number)
+returns-then-x c = declines c.args.x (λ a. no_number c.args.x c.if-x.true a.number)
 
 pub float_to_bits-b : goal.float_to_bits-b
 float_to_bits-b c = equal_to_itself c.args.x c.if-x.false
@@ -34,7 +34,7 @@ returns-in-2147483648 c =
 pub returns-in_default : goal.returns-in_default
 returns-in_default c =
     let x = c.args.x in
-    refusal x (λ a.
+    declines x (λ a.
     let word = to_bits-lt binary32 x a.number.fits32 in
     let below = positive_below x (above_zero x a (not-zero x a.number (search rules))) in
     search rules)

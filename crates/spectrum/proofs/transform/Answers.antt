@@ -1,114 +1,88 @@
 -- `spectrum::transform` meets its promise: each return is an accepted frame with its outputs, or one that a test shows
 -- is refused. Assumes nothing.
-use Rattle.std.proofs.Common.{rules, arith, ◌≡◌, ℕ, ◌<◌, List, length, get_or}
-use Rattle.units.specs.Refusals.{code_in}
+use mathlib.Core.Path.{subst}
+use mathlib.Core.List.{List}
+use Prim.Native.Nat.{ℕ, ◌<◌}
 use native.Mathlib.Nat.{lt_of_le_of_lt}
-use lib.Dec.{T}
-use lib.Ieee.{Float, binary32, fits, nan}
-use Rattle.spectrum.specs.Transform.{at, Element}
-use Rattle.spectrum.specs.Floats.{Largest, Scale}
+use native.Mathlib.Omega.{arith}
+use lib.ListN.{length}
+use lib.Ieee.{Float}
+use Rattle.spectrum.specs.Transform.{at, Lengths, Element}
+use Rattle.spectrum.specs.Floats.{Largest}
 use Rattle.spectrum.proofs.Frame.{below_element, size_below, small_words, holdable}
 use Rattle.spectrum.proofs.Promise.{refused_length, refused_element, too_large, promised}
-use Rattle.spectrum.proofs.transform.Goals.{After-of_largest-scaling}
+use Rattle.spectrum.proofs.transform.Goals.{After-of_largest-scaling, Else-im-ne65}
+use Rattle.spectrum.proofs.transform.Goals.{then-x-ne128-via-then-x-ne128}
+use Rattle.spectrum.proofs.transform.Goals.{then-x-ne128-via-else-x-ne128+then-re-ne65}
+use Rattle.spectrum.proofs.transform.Goals.{then-x-ne128-via-else-x-ne128+else-re-ne65+then-im-ne65}
 use Rattle.spectrum.proofs.transform.Goals as goal
 
--- ---- refusals of a length
-pub returns-in_err-x : goal.returns-in_err-x
-returns-in_err-x c =
-    let code : code_in c.from_residual.result ≡ 2 = search rules in
-    let other : length c.args.x.now ≡ 128 → ⊥ = search rules in
-    rw code (refused_length c.args.x.now (length c.args.re.now) (length c.args.im.now) (λ l. other l.values))
+-- ---- lengths
+pub returns-then-x-ne128 : goal.returns-then-x-ne128
+returns-then-x-ne128 c =
+    refused_length c.args.x.now (length c.args.re.now) (length c.args.im.now)
+    (λ l.
+    elim c.then-x-ne128.branch [
+      | then-x-ne128-via-then-x-ne128 w ↦ w.if-x-ne128.true l.values
+      | then-x-ne128-via-else-x-ne128+then-re-ne65 w ↦ w.if-re-ne65.true l.real
+      | then-x-ne128-via-else-x-ne128+else-re-ne65+then-im-ne65 w ↦ w.if-im-ne65.true l.imaginary
+    ])
 
-pub returns-in_err-re : goal.returns-in_err-re
-returns-in_err-re c =
-    let code : code_in c.from_residual-in_err-re.result ≡ 2 = search rules in
-    let other : length c.args.re.now ≡ 65 → ⊥ = search rules in
-    rw code (refused_length c.args.x.now (length c.args.re.now) (length c.args.im.now) (λ l. other l.real))
+-- behind their tests
+lengths : (c : Else-im-ne65) → Lengths c.args.x.now (length c.args.re.now) (length c.args.im.now)
+lengths c = record { values = c.if-x-ne128.false; real = c.if-re-ne65.false; imaginary = c.if-im-ne65.false }
 
-pub returns-in_err-im : goal.returns-in_err-im
-returns-in_err-im c =
-    let code : code_in c.from_residual-in_err-im.result ≡ 2 = search rules in
-    let same : c.in_ok-re.re.now ≡ c.args.re.now = search rules in
-    let other : length c.args.im.now ≡ 65 → ⊥ = search rules in
-    rw (code, same) (refused_length c.args.x.now (length c.args.re.now) (length c.args.im.now) (λ l. other l.imaginary))
+-- ---- the frame, behind the test of its largest pattern
+abbrev input : After-of_largest-scaling → List Float
+input c = c.args.x.now
+
+largest-of : (c : After-of_largest-scaling) → Largest (input c) 128 c.largest-m.result
+largest-of c = subst (λ (n : ℕ). Largest (input c) n c.largest-m.result) c.if-x-ne128.false c.largest-m.ensures
+
+elements : (c : After-of_largest-scaling) (n : ℕ) → n < 128 → Element (at (input c) n)
+elements c n l =
+    below_element (at (input c) n) (c.type_inv.x n) (lt_of_le_of_lt ((largest-of c).most n l) c.if-m-ge2071986176.false)
 
 pub returns-then-m-ge2071986176 : goal.returns-then-m-ge2071986176
 returns-then-m-ge2071986176 c =
-    let x : c.in_ok-x.x.now ≡ c.args.x.now = search rules in
-    let re : c.in_ok-re.re.now ≡ c.args.re.now = search rules in
-    let im : c.in_ok-im.im.now ≡ c.args.im.now = search rules in
-    let values : length c.args.x.now ≡ 128 = search rules in
-    let real : length c.args.re.now ≡ 65 = search rules in
-    let imaginary : length c.args.im.now ≡ 65 = search rules in
-    rw (re, im)
-    (refused_element c.args.x.now (length c.args.re.now) (length c.args.im.now)
-    (record { values = values; real = real; imaginary = imaginary })
-    (too_large c.args.x.now c.largest-m.result (rw x at c.largest-m.ensures) c.if-m-ge2071986176.true))
+    refused_element c.args.x.now (length c.args.re.now) (length c.args.im.now)
+    (lengths (goal.at.returns-then-m-ge2071986176 c).Else-im-ne65)
+    (too_large c.args.x.now c.largest-m.result c.largest-m.ensures c.if-m-ge2071986176.true)
 
--- ---- the frame, behind the test of its largest pattern
-record Frame (xs : List Float) (m e : ℕ) : Type 0 where
-  elements : (n : ℕ) → n < 128 → Element (at xs n)
-  largest : Largest xs 128 m
-  scale : Scale m e
-
-framed : {xs ys : List Float} {m e : ℕ} → xs ≡ ys → length ys ≡ 128 → ((i : ℕ) → T (fits binary32 (get_or ys i nan)))
-    → Largest xs (length xs) m → m < 2071986176 → Scale m e → Frame xs m e
-framed {xs} {ys} {m} same values fits largest small scale = record {
-  elements = λ n l. below_element (at xs n) (rw same (fits n)) (lt_of_le_of_lt (whole.most n l) small);
-  largest = whole;
-  scale = scale;
-}
-  where
-    whole : Largest xs 128 m
-    whole = let long : length xs ≡ 128 = rw same values in rw long at largest
-
-frame : (c : After-of_largest-scaling) → ((i : ℕ) → T (fits binary32 (get_or c.args.x.now i nan)))
-    → Frame c.in_ok-x.x.now c.largest-m.result c.of_largest-scaling.result.digits
-frame c fits =
-    let same : c.in_ok-x.x.now ≡ c.args.x.now = search rules in
-    let values : length c.args.x.now ≡ 128 = search rules in
-    framed same values fits c.largest-m.ensures c.if-m-ge2071986176.false c.of_largest-scaling.ensures
-
-pub load_all-requires : goal.load_all-requires
-load_all-requires c =
-    let f = frame (goal.at.load_all-requires c).After-of_largest-scaling c.type_inv.x in λ i l. (
-      (f.elements i l).number,
-      size_below c.in_ok-x.x.now c.largest-m.result c.of_largest-scaling.result.digits f.elements f.largest f.scale i l,
+pub load_all-requires-clause-within : goal.load_all-requires-clause-within
+load_all-requires-clause-within c =
+    let a = (goal.at.load_all-requires-clause-within c).After-of_largest-scaling in
+    let e = c.of_largest-scaling.result.digits in λ i l. (
+      (elements a i l).number,
+      size_below (input a) c.largest-m.result e (elements a) (largest-of a) c.of_largest-scaling.ensures i l,
     )
 
 pub transform-requires : goal.transform-requires
 transform-requires c =
-    let f = frame (goal.at.transform-requires c).After-of_largest-scaling c.type_inv.x in
-    small_words c.in_ok-x.x.now c.largest-m.result c.of_largest-scaling.result.digits f.elements f.largest f.scale
-    c.load_all.new.y c.load_all.ensures
+    let a = (goal.at.transform-requires c).After-of_largest-scaling in
+    small_words (input a) c.largest-m.result c.of_largest-scaling.result.digits (elements a) (largest-of a)
+    c.of_largest-scaling.ensures c.load_all.new.y c.load_all.ensures
 
-pub store_real-requires : goal.store_real-requires
-store_real-requires c =
-    let f = frame (goal.at.store_real-requires c).After-of_largest-scaling c.type_inv.x in
-    holdable c.in_ok-x.x.now c.largest-m.result c.of_largest-scaling.result.digits f.elements f.largest f.scale
-    c.load_all.new.y c.transform.new.r c.load_all.ensures c.transform.array_long c.transform.ensures
+pub store_real-requires-clause-holdable : goal.store_real-requires-clause-holdable
+store_real-requires-clause-holdable c =
+    let a = (goal.at.store_real-requires-clause-holdable c).After-of_largest-scaling in
+    holdable (input a) c.largest-m.result c.of_largest-scaling.result.digits (elements a) (largest-of a)
+    c.of_largest-scaling.ensures c.load_all.new.y c.transform.new.r c.load_all.ensures c.transform.array_long
+    c.transform.ensures
 
-pub store_imaginary-requires : goal.store_imaginary-requires
-store_imaginary-requires c =
-    let f = frame (goal.at.store_imaginary-requires c).After-of_largest-scaling c.type_inv.x in
-    holdable c.in_ok-x.x.now c.largest-m.result c.of_largest-scaling.result.digits f.elements f.largest f.scale
-    c.load_all.new.y c.transform.new.r c.load_all.ensures c.transform.array_long c.transform.ensures
+pub store_imaginary-requires-clause-holdable : goal.store_imaginary-requires-clause-holdable
+store_imaginary-requires-clause-holdable c =
+    let a = (goal.at.store_imaginary-requires-clause-holdable c).After-of_largest-scaling in
+    holdable (input a) c.largest-m.result c.of_largest-scaling.result.digits (elements a) (largest-of a)
+    c.of_largest-scaling.ensures c.load_all.new.y c.transform.new.r c.load_all.ensures c.transform.array_long
+    c.transform.ensures
 
 pub returns : goal.returns
 returns c =
-    let f = frame (goal.at.returns c).After-of_largest-scaling c.type_inv.x in
-    let same : c.in_ok-x.x.now ≡ c.args.x.now = search rules in
-    let values : length c.args.x.now ≡ 128 = search rules in
-    let real : length c.args.re.now ≡ 65 = search rules in
-    let imaginary : length c.args.im.now ≡ 65 = search rules in
-    rw (← same)
-    (promised c.in_ok-x.x.now (length c.args.re.now) (length c.args.im.now) c.largest-m.result
-    c.of_largest-scaling.result.digits
-    (record {
-      lengths = record { values = rw same values; real = real; imaginary = imaginary };
-      elements = record {
-        each = λ n h. f.elements n (let long : length c.in_ok-x.x.now ≡ 128 = rw same values in omega arith);
-      };
-    })
-    f.largest f.scale c.load_all.new.y c.transform.new.r c.store_real.new.re c.store_imaginary.new.im c.load_all.ensures
-    c.transform.array_long c.transform.ensures c.store_real.ensures c.store_imaginary.ensures)
+    let a = (goal.at.returns c).After-of_largest-scaling in
+    let l = lengths (goal.at.returns c).Else-im-ne65 in
+    promised (input a) _ _ c.largest-m.result c.of_largest-scaling.result.digits
+    (record { lengths = l; elements = record { each = λ n h. elements a n (omega (arith, h, l.values)) } })
+    (largest-of a) c.of_largest-scaling.ensures c.load_all.new.y c.transform.new.r c.store_real.new.re
+    c.store_imaginary.new.im c.load_all.ensures c.transform.array_long c.transform.ensures c.store_real.ensures
+    c.store_imaginary.ensures

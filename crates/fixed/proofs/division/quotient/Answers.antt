@@ -21,4 +21,5 @@ returns c =
     let b = both start in
     let z = count_leading_zeros 32 start.args.d in
     unshifted start.args.n start.args.d (2 ^ z) _ c.digit-l.result.r (pow_pos z)
-    (rw (b.divisor, b.number) at (two_digits (start.args.n * 2 ^ z % 2 ^ 64) (start.args.d * 2 ^ z % 2 ^ 32) _ _ _ _ c.digit-h.ensures.0 c.digit-l.ensures.0))
+    (rw (b.divisor, b.number) at
+    (two_digits (start.args.n * 2 ^ z % 2 ^ 64) (start.args.d * 2 ^ z % 2 ^ 32) _ _ _ _ c.digit-h.ensures.0 c.digit-l.ensures.0))
