@@ -1,5 +1,5 @@
-// The dot product that is the float nearest to the exact sum: products of significands go into bins of whole numbers, four binary
-// places apart, and one rounding ends it.
+// The dot product that is the float nearest to the exact sum: products of significands go into bins of whole numbers,
+// four binary places apart, and one rounding ends it.
 
 #![tactic(auto)]
 
@@ -10,7 +10,8 @@ ghost use Rattle.units.specs.Answers.{float_bits};
 ghost use Rattle.units.specs.Refusals.{Gives};
 ghost use Rattle.units.specs.Tests.{Tells};
 ghost use Rattle.exactsums.specs.Nearest.{NearestDot, rounded};
-ghost use Rattle.exactsums.specs.Work.{Sized, Accepted, Exponent, IsProduct, Added, Taken, number, Sticky, Digits, Small, Level, Judged, Subtracted, IsDigit, size_of, IsHead, IsClosed};
+ghost use Rattle.exactsums.specs.Work.{Sized, Accepted, Exponent, IsProduct, Added, Taken, number, Sticky, Digits};
+ghost use Rattle.exactsums.specs.Work.{Small, Level, Judged, Subtracted, IsDigit, size_of, IsHead, IsClosed};
 
 use units::Refusal;
 
@@ -94,9 +95,10 @@ impl Rows {
         }
     }
 
-    // Adds all products: 4,096 of less than 2^51 fit. Ends at an element that is refused. By places and with no `zip`, which asks for an
-    // `Option` of two references each time: the chip's archive is compiled from the module that is laid out for 64-bit addresses, and
-    // there finds them at other places. A place has 32 bits, as the chip's words have.
+    // Adds all products: 4,096 of less than 2^51 fit. Ends at an element that is refused. By places and with no `zip`,
+    // which asks for an `Option` of two references each time: the chip's archive is compiled from the module that is
+    // laid out for 64-bit addresses, and there finds them at other places. A place has 32 bits, as the chip's words
+    // have.
     fn gather(&mut self, a: &[f32], b: &[f32]) -> Result<(), Refusal>
         requires { (length a.now ≡ length b.now) × (length a.now ≤ 4096) × Level self.old }
         ensures judged { Judged a.now b.now self.new (is_ok result) }
@@ -111,7 +113,8 @@ impl Rows {
         Ok(())
     }
 
-    // The first row less the second, as digits base 16: both are carried upward, and what is borrowed counts with the second.
+    // The first row less the second, as digits base 16: both are carried upward, and what is borrowed counts with the
+    // second.
     fn subtract(&self, digits: &mut [u32; 41]) -> Left
         requires { Small 4097 self.now × Digits digits.old }
         ensures { Subtracted self.now digits.new result.over result.under }
@@ -156,6 +159,7 @@ fn rest(digits: &[u32; 41], i: u32) -> u64
     requires { Digits digits.now × (i ≤ 41) }
     ensures { Sticky (number digits.now 0 i) result }
 {
+    // A sum and one test, and no `any`: on the chip that finds no references, as `gather` says.
     let mut sum = 0;
     for j in 0..i {
         sum += digits[j as usize];
@@ -185,6 +189,7 @@ fn head(top: u64, digits: &[u32; 41], below: bool) -> First
 {
     let mut h = top;
     let mut i: u32 = 41;
+    // A `while`: it goes down and ends early, and `rev` would ask for an `Option` of a reference.
     while 0 < i && h < 144115188075855872 {
         i -= 1;
         h = 16 * h + digit(digits[i as usize], below);
@@ -200,8 +205,8 @@ fn closed(h: u64, s: u64, below: bool) -> u64
     if below { h + 1 - s } else { h }
 }
 
-// The pattern of the float nearest to the size of that number: its head as a whole number, one more digit that says whether any of
-// the rest is set, and one rounding.
+// The pattern of the float nearest to the size of that number: its head as a whole number, one more digit that says
+// whether any of the rest is set, and one rounding.
 fn rounded(top: u64, digits: &[u32; 41], below: bool) -> u32
     requires { Digits digits.now × (top ≤ 2 ^ 60) }
     ensures { result ≡ float_bits (rounded (size_of top digits.now below * 2 ^ 172) 0) }
@@ -212,8 +217,8 @@ fn rounded(top: u64, digits: &[u32; 41], below: bool) -> u32
     fixed::even_bits(2 * closed(t.h, s, below) + s, 62 + 4 * i)
 }
 
-// The float nearest to the sum of the products a_i b_i; refused where lengths or an element are.
-// Each bin starts at 1: only the difference of the rows counts, and an array of zeros would be cleared by a call out of the archive.
+// The float nearest to the sum of the products a_i b_i; refused where lengths or an element are. Each bin starts at 1:
+// only the difference of the rows counts, and an array of zeros would be cleared by a call out of the archive.
 pub fn dot_nearest(a: &[f32], b: &[f32]) -> Result<u32, Refusal>
     ensures { Gives float_bits (NearestDot a.now b.now) result }
 {

@@ -5,7 +5,7 @@
 
 mod words;
 
-ghost use Rattle.std.specs.Prelude.{◌≡◌, length, take, drop, MatchOption, MatchResult};
+ghost use Rattle.std.specs.Prelude.{◌≡◌, length, MatchResult};
 ghost use Rattle.units.specs.Answers.{Ends, itself};
 ghost use Rattle.units.specs.Refusals.{code_in, Gives};
 ghost use Rattle.loudness.specs.Map.{Channel as IsChannel};
@@ -18,25 +18,23 @@ use crate::knee::BentChannel;
 use units::Refusal;
 use words::Words;
 
-// The two halves of twelve words.
-fn halves(w: &[u32]) -> Option<(&[u32; 6], &[u32; 6])>
-    ensures { MatchOption result (¬ (length w.now ≡ 12))
-        (λ h. (length w.now ≡ 12) × (h.0.now ≡ take 6 w.now) × (h.1.now ≡ drop 6 w.now)) }
-{
-    let (lower, rest) = w.split_first_chunk()?;
-    Some((lower, rest.as_array()?))
-}
-
 // The words that answer a: six of a straight channel, and of a bent one those of the segment in which the value lies.
 fn chosen(w: &[u32], a: f32) -> Result<&[u32; 6], Refusal>
     ensures { MatchResult result (λ v. ChosenWords w.now a v.now) (λ e. Gives itself (Step w.now a) (Err e)) }
 {
-    if let Some(straight) = w.as_array() {
-        return Ok(straight);
-    }
-    let Some((lower, upper)) = halves(w) else {
+    // No call here returns an Option of one reference: compiled for a chip of 32 bits from the module of 64, it is lost.
+    let Some((lower, rest)) = w.split_first_chunk() else {
         return Err(Refusal::BadLength);
     };
+    if rest.is_empty() {
+        return Ok(lower);
+    }
+    let Some((upper, more)) = rest.split_first_chunk() else {
+        return Err(Refusal::BadLength);
+    };
+    if !more.is_empty() {
+        return Err(Refusal::BadLength);
+    }
     let (below, above) = (Words::read(lower)?, Words::read(upper)?);
     if above.threshold() < below.threshold() + below.range() {
         return Err(Refusal::BadChannel);

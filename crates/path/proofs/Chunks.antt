@@ -8,7 +8,7 @@ use lib.ListN.{length, get_or, drop}
 use Rattle.std.specs.Simd.{first_chunks}
 use Rattle.std.proofs.lemmas.List.{get_or-take, get_or-drop}
 use Rattle.path.specs.Path.{lo, Band, Bands}
-use Rattle.path.specs.Ready.{words_of, AllBands, current_at, current_of}
+use Rattle.path.specs.Ready.{words_of, AllBands, current_at, current_of, Stepped, SteppedBy}
 
 -- the word j of the chunk i
 in_chunk : (n k : ℕ) (xs : List ℕ) (i j : ℕ) → i < k → j < n → get_or (words_of (first_chunks n k xs) i) j 0 ≡ get_or xs (n * i + j) 0
@@ -43,7 +43,7 @@ module _ (bs : List ℕ) (k i : ℕ) (l : i < k) where
   band_alone : (top : ℕ) → Band top bs i → Band top (words_of (first_chunks 6 k bs) i) 0
   band_alone = same_band bs (words_of (first_chunks 6 k bs) i) i 0 (λ j h. sym (words_are j h))
 
-  pub same_current : (ys : List ℕ) → current_of ys (words_of (first_chunks 6 k bs) i) ≡ current_at ys bs i
+  same_current : (ys : List ℕ) → current_of ys (words_of (first_chunks 6 k bs) i) ≡ current_at ys bs i
   same_current = same_step (words_of (first_chunks 6 k bs) i) bs 0 i words_are
 
 -- so all of them are bands by either
@@ -60,3 +60,7 @@ module _ (bs : List ℕ) (k : ℕ) (top : ℕ) where
 
   pub bands_alone : Bands top bs k → AllBands top (first_chunks 6 k bs)
   bands_alone h = record { each = λ i l. let below : i < k = omega (arith, length_is) in band_alone bs k i below top (h.each i below) }
+
+-- and so are their currents
+pub stepped : (bs : List ℕ) (n : ℕ) (ys is : List ℕ) → SteppedBy ys (first_chunks 6 n bs) n is → Stepped ys bs n is
+stepped bs n ys is h = record { as_many = h.as_many; each = λ i l. h.each i l ∙ same_current bs n i l ys }

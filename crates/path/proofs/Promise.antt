@@ -20,7 +20,7 @@ use Rattle.spectrum.proofs.Cosines.{own_table}
 use Rattle.loudness.specs.Value.{step_of}
 use Rattle.path.specs.Path.{lo, hi, quietest, loudest, threshold, comfort, Lengths, Band, Bands, Samples, Accepts, product, power, in_sums, NearPath, path_error_num, path_error_den, as_they_are, Currents}
 use Rattle.path.specs.Steps.{Products, modulus_of, real_size, imaginary_size, Moduli, envelope_of, sum_from, IsCurrent}
-use Rattle.path.specs.Ready.{Small, current_at}
+use Rattle.path.specs.Ready.{Small, current_at, Stepped}
 use Rattle.path.proofs.Adding.{sum_same}
 use Rattle.path.proofs.Samples.{small_of}
 use Rattle.path.proofs.Envelopes.{envelope}
@@ -68,7 +68,7 @@ silent_power xs ws quiet c s k = rw (silent_total xs ws quiet c k, silent_total 
 
 -- ---- success
 module _ (top : ℕ) (xs ws : List Float) (bs : List ℕ) (n : ℕ) (accepts : Accepts top xs ws bs n) (ys : List ℕ) (products : Products xs ws ys) (r : List ℕ) (count : length r ≡ 128) (fills : FilledWith ys 0 1 r) (gs : List ℕ) (moduli : Moduli r gs) (is : List ℕ)
-    (count_is : length is ≡ n) (stepped : (i : ℕ) → i < n → get_or is i 0 ≡ current_at gs bs i) where
+    (stepped : Stepped gs bs n is) where
   small : (i : ℕ) → i < 128 → Small (at xs i) × Small (at ws i)
   small i l = (small_of (at xs i) (accepts.samples.sound i l), small_of (at ws i) (accepts.samples.window i l))
 
@@ -87,7 +87,7 @@ module _ (top : ℕ) (xs ws : List Float) (bs : List ℕ) (n : ℕ) (accepts : A
 
     is_step : get_or is i 0 ≡ step_of b m (threshold bs i) (comfort bs i) (envelope_of S)
     unfolding current_at
-    is_step = stepped i l
+    is_step = stepped.each i l
 
     at_least : threshold bs i ≤ get_or is i 0
     at_least = le_trans ((law top b m _ _ band.channel (envelope_of S) (envelope S)).at_least band.channel (envelope S)) (le_of_eq (sym is_step))
@@ -120,7 +120,7 @@ module _ (top : ℕ) (xs ws : List Float) (bs : List ℕ) (n : ℕ) (accepts : A
     bad_channel = λ h g. absurd (g accepts.bands);
     out_of_range = λ h g w. absurd (w accepts.samples);
     success = λ h. refl;
-    as_many = λ h. count_is;
+    as_many = λ h. stepped.as_many;
     at_least = λ h. at_least;
     at_most = λ h. at_most;
     near = λ h c s u turns i l. near_path i l c s u turns;

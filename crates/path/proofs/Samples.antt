@@ -33,8 +33,8 @@ pub small_by : (x : Float) → T (fits binary32 x) → size_bits x ≤ 106535321
 small_by x f l = record { number = finite_below x f (omega arith); bits = l }
 
 -- a largest pattern above that of 1 is that of no sample
-pub too_large : (xs : List Float) (n m : ℕ) → Largest xs n m → 1065353216 < m → ¬ ((i : ℕ) → i < n → Small (at xs i))
-too_large xs n m h l all = let (i, b, e) = h.there (λ z. omega arith) in wrong (all i b).bits e
+pub too_large : (xs : List Float) (m : ℕ) → Largest xs 128 m → 1065353216 < m → ¬ ((i : ℕ) → i < 128 → Sample (at xs i))
+too_large xs m h l all = let (i, b, e) = h.there (λ z. omega arith) in wrong (small_of (at xs i) (all i b)).bits e
   where
     wrong : {b : ℕ} → b ≤ 1065353216 → b ≡ m → ⊥
     wrong p q = omega arith

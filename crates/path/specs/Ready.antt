@@ -44,7 +44,12 @@ abbrev pub current_of : List ℕ → List ℕ → ℕ
 current_of ys words = current_at ys words 0
 
 -- there is one for each place
-pub record Stepped (ys : List ℕ) (bands : List (List ℕ)) (n : ℕ) (is : List ℕ) : Type 0 where
+pub record Stepped (ys bs : List ℕ) (n : ℕ) (is : List ℕ) : Type 0 where
+  pub as_many : length is ≡ n
+  pub each : (i : ℕ) → i < n → get_or is i 0 ≡ current_at ys bs i
+
+-- the same, by the words of each band
+pub record SteppedBy (ys : List ℕ) (bands : List (List ℕ)) (n : ℕ) (is : List ℕ) : Type 0 where
   pub as_many : length is ≡ n
   pub each : (i : ℕ) → i < n → get_or is i 0 ≡ current_of ys (words_of bands i)
 
@@ -57,4 +62,4 @@ pub record Heard (xs ws : List Float) (bands : List (List ℕ)) (n : ℕ) (is : 
   pub count : length r ≡ 128
   pub fills : FilledWith ys 0 1 r
   pub moduli : Moduli r gs
-  pub stepped : Stepped gs bands n is
+  pub stepped : SteppedBy gs bands n is

@@ -4,7 +4,7 @@ ghost use Rattle.std.specs.Prelude.{◌≡◌, ◌≤◌, length, MatchResult};
 ghost use Rattle.units.specs.declared.refusal.Refusal.TheVariants.{BadChannel};
 ghost use Rattle.path.specs.Path.{Band as IsBand};
 ghost use Rattle.path.specs.Steps.{envelope_of};
-ghost use Rattle.path.specs.Ready.{Reads, AllBands, current_of, Stepped};
+ghost use Rattle.path.specs.Ready.{Reads, AllBands, current_of, SteppedBy};
 
 use crate::sizes::Sizes;
 use loudness::{Channel, Segment};
@@ -84,7 +84,7 @@ fn current(top: u32, words: &[u32; 6], sizes: Sizes) -> u32
 // Those of all of them.
 pub fn steps(top: u32, bands: &[[u32; 6]], sizes: Sizes, out: &mut [u32])
     requires { AllBands top bands.now × (length bands.now ≡ length out.old) }
-    ensures { Stepped sizes.entry.words.now bands.now (length out.old) out.new }
+    ensures { SteppedBy sizes.entry.words.now bands.now (length out.old) out.new }
 {
     for (i, step) in out.iter_mut().enumerate() {
         *step = current(top, &bands[i], sizes);

@@ -2,7 +2,8 @@
 
 #![tactic(auto)]
 
-ghost use Rattle.std.specs.Prelude.{◌≡◌, ℕ, ◌+◌, ◌*◌, ◌/◌, ◌^◌, ◌≤◌, ◌<◌, ◌↔◌, length, slice_index_or, EachIndex, IsTrue, MatchResult};
+ghost use Rattle.std.specs.Prelude.{◌≡◌, ℕ, ◌+◌, ◌*◌, ◌/◌, ◌^◌, ◌≤◌, ◌<◌};
+ghost use Rattle.std.specs.Prelude.{◌↔◌, length, slice_index_or, EachIndex, IsTrue, IfOk, IfErr};
 ghost use Rattle.std.specs.Float.{nan, float_is_finite};
 ghost use Rattle.units.specs.declared.refusal.Refusal.TheVariants.{BadLength};
 ghost use Rattle.units.specs.Answers.{float_bits};
@@ -23,7 +24,8 @@ struct Pair<'a> {
 
 impl<'a> Pair<'a> {
     fn new(a: &'a [f32], b: &'a [f32]) -> Result<Pair<'a>, Refusal>
-        ensures { MatchResult result (λ p. (p.a.now ≡ a.now) × (p.b.now ≡ b.now)) (λ refusal. (refusal ≡ BadLength) × (¬ Lengths a.now b.now)) }
+        ensures of { IfOk result (λ p. (p.a.now ≡ a.now) × (p.b.now ≡ b.now)) }
+        ensures refusal { IfErr result (λ refusal. (refusal ≡ BadLength) × (¬ Lengths a.now b.now)) }
     {
         if a.len() != b.len() {
             return Err(Refusal::BadLength);
@@ -46,7 +48,8 @@ impl<'a> Pair<'a> {
         }
     }
 
-    // By sixteens, which the compiler puts in place: called for each block, it would not do so with thirty-twos.
+    // By sixteens, which the compiler puts in place: called for each block, it would not do so with thirty-twos, as a
+    // `Twice` of them has it.
     fn sixty_four(self) -> f32
         requires { 64 ≤ length self.a.now }
         ensures { result ≡ block_of 6 self.entry.a.now self.entry.b.now }
@@ -71,8 +74,9 @@ impl<'a> Pair<'a> {
         }
     }
 
-    // The products behind the last multiple of 64, in pieces of powers of two: each piece added in pairs, and the pieces from the last
-    // to the first, as neighbours in pairs come to. -0 where there are none: it changes no sum that it is added to.
+    // The products behind the last multiple of 64, in pieces of powers of two: each piece added in pairs, and the
+    // pieces from the last to the first, as neighbours in pairs come to. -0 where there are none: it changes no sum
+    // that it is added to.
     fn rest(self) -> f32
         ensures { result ≡ behind_last 64 self.entry.a.now self.entry.b.now }
     {
@@ -118,8 +122,8 @@ impl<'a> Pair<'a> {
     }
 }
 
-// The first 2^level products of a pair, added in pairs. A list is cut and not indexed further on: the places of a block are then
-// fixed distances from its first, which the chip adds for nothing.
+// The first 2^level products of a pair, added in pairs. A list is cut and not indexed further on: the places of a block
+// are then fixed distances from its first, which the chip adds for nothing.
 trait Block {
     ghost level: { ℕ };
 
@@ -186,6 +190,7 @@ impl Tally {
         let mut s = pair.behind((64 * i) as usize).sixty_four();
         let mut l = 0;
         let mut c = i;
+        // A `while`: it ends at the first digit that is 0, and no range has the digits of a number.
         while c % 2 == 1 {
             s = self.held[l] + s;
             l += 1;
@@ -203,6 +208,7 @@ impl Tally {
         let mut s = rest;
         let mut l = 0;
         let mut c = (pair.a.len() / 64) as u32;
+        // Likewise: it ends behind the highest digit, where a `for` would go over all 11 places.
         while 0 < c {
             if c % 2 == 1 {
                 s = self.held[l] + s;
@@ -214,8 +220,8 @@ impl Tally {
     }
 }
 
-// Is every element finite? A `for`, since `all` asks for an `Option` of a reference each time: the chip's archive is compiled from
-// the module that is laid out for 64-bit addresses, and there finds the reference at another place.
+// Is every element finite? A `for`, since `all` asks for an `Option` of a reference each time: the chip's archive is
+// compiled from the module that is laid out for 64-bit addresses, and there finds the reference at another place.
 fn all_finite(a: &[f32]) -> bool
     ensures { IsTrue result ↔ EachIndex a.now (λ k. IsTrue (float_is_finite (slice_index_or a.now k nan))) }
 {
@@ -227,9 +233,9 @@ fn all_finite(a: &[f32]) -> bool
     true
 }
 
-// The sum of the products a_i b_i; refused where lengths, an element or an intermediate result are.
-// An infinity or a NaN among the elements or the intermediate results never becomes finite again: so one test, of the result,
-// serves for all of them, and only where it fails a second pass tells an element from an overflow.
+// The sum of the products a_i b_i; refused where lengths, an element or an intermediate result are. An infinity or a
+// NaN among the elements or the intermediate results never becomes finite again: so one test, of the result, serves for
+// all of them, and only where it fails a second pass tells an element from an overflow.
 pub fn dot(a: &[f32], b: &[f32]) -> Result<u32, Refusal>
     ensures { Gives float_bits (Dot a.now b.now) result }
 {

@@ -7,8 +7,8 @@ use lib.ListN.{length}
 use Rattle.std.specs.Simd.{first_chunks}
 use Rattle.units.specs.declared.refusal.Refusal.TheVariants.{BadChannel}
 use Rattle.path.specs.Path.{Lengths, Bands, Accepts}
-use Rattle.path.specs.Ready.{AllBands, words_of, current_of}
-use Rattle.path.proofs.Chunks.{bands_among, bands_alone, same_current}
+use Rattle.path.specs.Ready.{AllBands, SteppedBy}
+use Rattle.path.proofs.Chunks.{bands_among, bands_alone, stepped}
 use Rattle.path.proofs.Samples.{samples_of, all_small}
 use Rattle.path.proofs.Promise.{refused_band, refused_sample, promised}
 use Rattle.path.proofs.currents.Goals.{Else-not-is_empty}
@@ -51,5 +51,5 @@ returns c =
     let n = length c.args.out.now in
     let h = c.hear.ensures in
     let accepts : Accepts c.args.top xs ws bs n = record { lengths = lengths at; bands = bands at c.in_ok-accept.ensures; samples = samples_of xs ws (c.if-not-accepts.ensures.if_true refl) } in
-    promised c.args.top xs ws bs n accepts h.ys h.products h.r h.count h.fills h.gs h.moduli c.hear.new.out h.stepped.as_many
-    (λ i l. h.stepped.each i l ∙ ap (λ cs. current_of h.gs (words_of cs i)) (chunks at) ∙ same_current bs n i l h.gs)
+    promised c.args.top xs ws bs n accepts h.ys h.products h.r h.count h.fills h.gs h.moduli c.hear.new.out
+    (stepped bs n h.gs c.hear.new.out (subst (λ cs. SteppedBy h.gs cs n c.hear.new.out) (chunks at) h.stepped))

@@ -11,10 +11,10 @@ use Rattle.sums.proofs.dot.Goals as goal
 
 -- the lists of the pair are those that were passed
 lengths : (c : After-in_pairs-s) → Lengths c.args.a.now c.args.b.now
-lengths c = let (i, j) = c.in_ok-new.ensures in rw (i, j) at c.in_ok-new.field-0.lengths
+lengths c = let (i, j) = c.in_ok-new.ensures.of in rw (i, j) at c.in_ok-new.field-0.lengths
 
 sum : (c : After-in_pairs-s) → c.in_pairs-s.result ≡ dot_of c.args.a.now c.args.b.now
-sum c = let (i, j) = c.in_ok-new.ensures in c.in_pairs-s.ensures ∙ ap₂ dot_of i j
+sum c = let (i, j) = c.in_ok-new.ensures.of in c.in_pairs-s.ensures ∙ ap₂ dot_of i j
 
 pub returns-then-is_finite : goal.returns-then-is_finite
 returns-then-is_finite c =

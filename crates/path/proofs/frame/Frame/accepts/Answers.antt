@@ -1,8 +1,10 @@
 -- `path::frame::Frame::accepts` meets its contract: no size is above the largest one. Assumes nothing.
+use mathlib.Core.Path.{subst}
 use native.Mathlib.Nat.{le_trans}
 use native.Mathlib.Omega.{arith}
 use borrow.Author.Tests.{leb-true, leb-false}
-use Rattle.path.proofs.Samples.{small_by, too_large}
+use Rattle.spectrum.specs.Floats.{Largest}
+use Rattle.path.proofs.Samples.{sample_of, small_by, too_large}
 use Rattle.path.proofs.frame.Frame.accepts.Goals as goal
 
 pub returns-then-largest-le-ONE : goal.returns-then-largest-le-ONE
@@ -14,5 +16,5 @@ returns-then-largest-le-ONE c =
         samples = λ i l. small_by _ (c.type_inv.x i) (le_trans (xs.most i (omega arith)) c.if-largest-le-ONE.true);
         window = λ i l. small_by _ (c.type_inv.w i) (le_trans (ws.most i (omega arith)) (leb-true _ _ e));
       };
-      if_false = λ e h. too_large _ _ _ ws (leb-false _ _ e) (λ i l. h.window i (omega arith));
+      if_false = λ e h. too_large c.args.w.now _ (subst (λ n. Largest c.args.w.now n c.largest-then-largest-le-ONE.result) c.requires.1 ws) (leb-false _ _ e) (λ i l. sample_of _ (h.window i l));
     }
