@@ -182,7 +182,13 @@ pub fn ear_transform128(x: &[f32], re: &mut [u32], im: &mut [u32]) -> Result<(),
 
 // The currents of up to 65 bands of a windowed frame, each within 0.504 of a step of the exact path's, or BadLength,
 // BadChannel or OutOfRange and nothing written.
-pub fn ear_currents(top: u32, x: &[f32], w: &[f32], bands: &[u32], out: &mut [u32]) -> Result<(), Refusal>
+pub fn ear_currents(
+    top: u32,
+    x: &[f32],
+    w: &[f32],
+    bands: &[u32],
+    out: &mut [u32],
+) -> Result<(), Refusal>
     ensures { Ends as_they_are (Currents top x.now w.now bands.now (length out.old)) (code_in result) out.old out.new }
 {
     path::currents(top, x, w, bands, out)

@@ -178,7 +178,10 @@ pub extern "C" fn ear_loudness_top(
 ) -> u32
     ensures { Ends itself (Loudness top b m t c a) result out.old out.new }
 {
-    write(earmath::ear_loudness_top(top, Channel { b, m, t, c }, a), out)
+    write(
+        earmath::ear_loudness_top(top, Channel { b, m, t, c }, a),
+        out,
+    )
 }
 
 // The map with a knee: straight from b to k with the steps t to kk, and from k to m with the steps kk to c.
@@ -196,7 +199,21 @@ pub extern "C" fn ear_loudness_knee(
 ) -> u32
     ensures { Ends itself (LoudnessKnee top b k m t kk c a) result out.old out.new }
 {
-    write(earmath::ear_loudness_knee(top, BentChannel { b, k, m, t, s: kk, c }, a), out)
+    write(
+        earmath::ear_loudness_knee(
+            top,
+            BentChannel {
+                b,
+                k,
+                m,
+                t,
+                s: kk,
+                c,
+            },
+            a,
+        ),
+        out,
+    )
 }
 
 // What the map needs of a channel, worked out once, in 6 words: those that ear_step takes; or code 2 or 4 and nothing
@@ -222,7 +239,18 @@ pub extern "C" fn ear_fit_knee(
 ) -> u32
     ensures { Ends as_they_are (Fits (IsBentChannel top b k m t kk c) (fitted_knee b k m t kk c) bent_words (length words.old)) result words.old words.new }
 {
-    code(earmath::ear_fit_knee(top, BentChannel { b, k, m, t, s: kk, c }, words))
+    code(earmath::ear_fit_knee(
+        top,
+        BentChannel {
+            b,
+            k,
+            m,
+            t,
+            s: kk,
+            c,
+        },
+        words,
+    ))
 }
 
 // The step of an envelope value by the words of a fitted channel: the map's; or code 2, 4 or 1 and nothing written.

@@ -1,25 +1,26 @@
 -- Sums over a band. Assumes nothing.
-use mathlib.Core.Path.{◌≡◌, refl, ap, ap₂, ◌∙◌}
-use mathlib.Core.List.{List}
-use Prim.Native.Nat.{ℕ, zero, suc, ◌+◌, ◌*◌, ◌≤◌, ◌<◌}
+use mathlib.Core.Path.{◌≡◌, refl, ap, ◌∙◌}
+use Prim.Native.Nat.{ℕ, zero, suc, ◌+◌, ◌-◌, ◌*◌, ◌≤◌, ◌<◌}
 use native.Mathlib.Omega.{arith}
-use lib.ListN.{length, get_or, take, drop}
-use Rattle.std.specs.List.{sum}
-use Rattle.std.proofs.lemmas.List.{length-drop, get_or-drop}
-use Rattle.std.proofs.lemmas.List.Sums.{sum_by_more}
 use Rattle.spectrum.specs.Transform.{sum_of}
 
--- of a part of a list
-pub sum_range : (ys : List ℕ) (low n : ℕ) → low + n ≤ length ys → sum (take n (drop low ys)) ≡ sum_of (λ j. get_or ys (low + j) 0) n
+-- one term more
+pub sum_more : (f : ℕ → ℕ) (low k : ℕ) → low ≤ k → sum_of (λ j. f (low + j)) (k + 1 - low) ≡ sum_of (λ j. f (low + j)) (k - low) + f k
 unfolding sum_of
-sum_range ys low zero l = refl
-sum_range ys low (suc n) l =
-    ap (λ k. sum (take k (drop low ys))) next
-    ∙ sum_by_more (λ x. x) (drop low ys) n 0 (omega (arith, length-drop low ys))
-    ∙ ap₂ ◌+◌ (sum_range ys low n (omega arith)) (get_or-drop low ys n 0)
+sum_more f low k l = ap (λ (n : ℕ). sum_of (λ j. f (low + j)) n) next ∙ ap (λ (i : ℕ). sum_of (λ j. f (low + j)) (k - low) + f i) back
   where
-    next : suc n ≡ n + 1
+    next : k + 1 - low ≡ suc (k - low)
     next = omega arith
+
+    back : low + (k - low) ≡ k
+    back = omega arith
+
+pub sum_none : (f : ℕ → ℕ) (low : ℕ) → sum_of (λ j. f (low + j)) (low - low) ≡ 0
+unfolding sum_of
+sum_none f low = ap (λ (n : ℕ). sum_of (λ j. f (low + j)) n) none
+  where
+    none : low - low ≡ 0
+    none = omega arith
 
 -- terms of which each is at most a times another and b
 pub sum_by : (f g : ℕ → ℕ) (p q b n : ℕ) → ((i : ℕ) → i < n → p * f i ≤ q * g i + b) → p * sum_of f n ≤ q * sum_of g n + n * b

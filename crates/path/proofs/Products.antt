@@ -1,7 +1,7 @@
 -- A product of a sample and a window value: digits and places, the sign, and how far its word is from it. Assumes nothing.
 use mathlib.Core.Path.{◌≡◌, refl, sym, ap, ap₂, ◌∙◌, subst}
 use mathlib.Core.Logic.{inl, inr}
-use mathlib.Core.Bool.{Bool, true, false, cond, not, beq}
+use mathlib.Core.Bool.{Bool, true, false, cond}
 use Prim.Native.Nat.{ℕ, ◌+◌, ◌-◌, ◌*◌, ◌/◌, ◌%◌, ◌^◌, ◌≤◌, ◌<◌}
 use native.Mathlib.Nat.{le_trans, le_of_eq, lt_of_le_of_lt, lt_of_lt_of_le, mul_comm, mul-one, div-eq_of_lt, mul-le-mul, mul-le-mul_right, mul-div-mul_right, div-mul-le_self, lt-div-mul-add, le_of_mul-le-mul_right}
 use native.Mathlib.Omega.{arith}
@@ -121,12 +121,25 @@ product_most x w sx sw = le_of_mul-le-mul_right (le_trans (div-mul-le_self (mag 
 sign : (x : Float) → Number x → (s : Bool) → negative x ≡ s → to_bits binary32 x / 2147483648 ≡ cond s 1 0
 sign x n s h = (packed_of x n).top_bit ∙ ap (λ (b : Bool). cond b 1 0) h
 
-tested : (x : Float) → Number x → ltb (to_bits binary32 x) 2147483648 ≡ not (negative x)
-tested x n = go _ (negative x) (sign x n (negative x) refl)
+pub clear : (x : Float) → Number x → to_bits binary32 x < 2147483648 → negative x ≡ false
+clear x n l = go (negative x) refl
   where
-    go : (b : ℕ) (s : Bool) → b / 2147483648 ≡ cond s 1 0 → ltb b 2147483648 ≡ not s
-    go b true e = le-ltb b 2147483648 (omega arith)
-    go b false e = lt-ltb b 2147483648 (omega arith)
+    go : (s : Bool) → negative x ≡ s → negative x ≡ false
+    go false e = e
+    go true e = absurd (wrong (sign x n true e))
+      where
+        wrong : to_bits binary32 x / 2147483648 ≡ 1 → ⊥
+        wrong f = omega arith
+
+pub set : (x : Float) → Number x → 2147483648 ≤ to_bits binary32 x → negative x ≡ true
+set x n l = go (negative x) refl
+  where
+    go : (s : Bool) → negative x ≡ s → negative x ≡ true
+    go true e = e
+    go false e = absurd (wrong (sign x n false e))
+      where
+        wrong : to_bits binary32 x / 2147483648 ≡ 0 → ⊥
+        wrong f = omega arith
 
 -- ---- the word
 module _ (x w : Float) where
@@ -135,18 +148,6 @@ module _ (x w : Float) where
   word_is a b e f = rw (e, f) refl
 
   module _ (sx : Small x) (sw : Small w) where
-    -- by a test of both signs at once, on patterns a and b
-    module _ (a b : ℕ) (same : Bool) (e : a ≡ to_bits binary32 x) (f : b ≡ to_bits binary32 w) (t : beq (ltb a 2147483648) (ltb b 2147483648) ≡ same) where
-      pub word_by_test : product_word x w ≡ cond same (unit + product_size x w) (unit - product_size x w)
-      unfolding product_word
-      word_by_test = sorted (negative x) (negative w) _ _ (sym (ap₂ beq (ap (λ n. ltb n 2147483648) e ∙ tested x sx.number) (ap (λ n. ltb n 2147483648) f ∙ tested w sw.number)) ∙ t)
-        where
-          sorted : (p q : Bool) (m n : ℕ) → beq (not p) (not q) ≡ same → cond p (cond q m n) (cond q n m) ≡ cond same m n
-          sorted true true m n h = rw (← h) refl
-          sorted true false m n h = rw (← h) refl
-          sorted false true m n h = rw (← h) refl
-          sorted false false m n h = rw (← h) refl
-
     pub word_small : SmallWord (product_word x w)
     word_small = go (negative x) (negative w) refl refl
       where

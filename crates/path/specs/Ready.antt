@@ -18,15 +18,6 @@ pub record AllSmall (xs ws : List Float) : Type 0 where
   pub samples : (i : ℕ) → i < 128 → Small (at xs i)
   pub window : (i : ℕ) → i < 128 → Small (at ws i)
 
--- what six words say
-pub record Reads (words : List ℕ) (low high : ℕ) (b m : Float) (t c : ℕ) : Type 0 where
-  pub low_is : low ≡ lo words 0
-  pub high_is : high ≡ hi words 0
-  pub b_is : b ≡ quietest words 0
-  pub m_is : m ≡ loudest words 0
-  pub t_is : t ≡ threshold words 0
-  pub c_is : c ≡ comfort words 0
-
 -- the words of the band i, in a list of bands
 abbrev pub words_of : List (List ℕ) → ℕ → List ℕ
 words_of bands i = get_or bands i []

