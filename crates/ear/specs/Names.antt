@@ -1,4 +1,4 @@
--- The functions' names. Definitions only.
+-- The functions' names. A reader of the promises need not read this. Definitions only.
 use Rattle.std.specs.Prelude.{◌≡◌, ◌≢◌, ℕ, List, Result, MatchResult, codes}
 use Rattle.ear.specs.declared.functions.Function.{Function}
 use Rattle.ear.specs.declared.functions.Function.TheVariants.{Sqrt, Rsqrt, Exp2, Exp, Log2, Sinpi, Cospi, Sin, Cos}

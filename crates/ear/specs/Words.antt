@@ -1,4 +1,4 @@
--- What words are, and which are bit patterns. Definitions only.
+-- What words are, and which are bit patterns. A reader of the promises need not read this. Definitions only.
 use Rattle.std.specs.Prelude.{ℕ, ◌≤◌, ◌==◌, Bool, true, if◌then◌else◌, not, List, [], ◌∷◌, ◌++◌, length, Float, from_bits}
 use Rattle.std.specs.Float.{binary32}
 use Rattle.std.specs.List.{filter, flat_map, slice_split}

@@ -1,5 +1,5 @@
--- What the two bases accept, and how a size is taken times the logarithm of each. A reader of the promises need not
--- read this. Definitions only.
+-- What the two bases accept, and how a size is taken times the logarithm of each.
+-- A reader of the promises need not read this. Definitions only.
 use Rattle.std.specs.Prelude.{ℕ, true, false, Float}
 use Rattle.powers.specs.Exp2 as exp2
 use Rattle.powers.specs.Exp as exp
