@@ -1,5 +1,5 @@
-// Sine and cosine, of x and of pi x: whole numbers inside, one rounding at the end. An angle is its phase, a whole number
-// of 2^-64 turns.
+// Sine and cosine, of x and of pi x: whole numbers inside, one rounding at the end. An angle is its phase, a whole
+// number of 2^-64 turns.
 
 #![tactic(auto)]
 
@@ -23,7 +23,8 @@ const QUARTER: u64 = 0x4000_0000_0000_0000;
 
 const HALF: u64 = 0x8000_0000_0000_0000;
 
-// One step of Horner's rule with alternating signs: the upper word of a product is taken away.
+// One step of Horner's rule with alternating signs: the upper word of a product is taken away. Not one function with
+// the step of powers, which adds: this one must not fall below zero, that one must not run over.
 fn step(c: u32, p: u32, z: u32) -> u32
     requires { p ≤ c }
     ensures { (result ≡ c - p * z / 4294967296) × (result ≤ c) }
@@ -31,8 +32,9 @@ fn step(c: u32, p: u32, z: u32) -> u32
     c - fixed::upper_product(p, z)
 }
 
-// The sine of w / 2^32 quarter turns, in units of 2^-32: seven products of two 32-bit numbers. Its steps stand one by one:
-// that none falls below zero is a fact of two neighbours among the coefficients, which a fold would need told for each.
+// The sine of w / 2^32 quarter turns, in units of 2^-32: seven products of two 32-bit numbers. Its steps stand one by
+// one: that none falls below zero is a fact of two neighbours among the coefficients, which a fold would need told for
+// each.
 fn quarter_sine(w: u32) -> u64
     ensures { result ≡ quarter_sine w }
 {
@@ -58,8 +60,8 @@ fn place(phase: u64) -> u32
     }
 }
 
-// The bit pattern of the sine of a phase: the size in its quarter, and the sign of its half. Where nothing is left it is
-// +0.
+// The bit pattern of the sine of a phase: the size in its quarter, and the sign of its half. Where nothing is left it
+// is +0.
 fn wave_bits(phase: u64) -> u32
     ensures { result ≡ wave_bits phase }
 {
@@ -70,7 +72,8 @@ fn wave_bits(phase: u64) -> u32
     (phase / HALF) as u32 * 0x8000_0000 + fixed::nearest_bits(n, 157)
 }
 
-// An angle: the phase of its size, and its sign.
+// An angle: the phase of its size, and its sign. A bool and no enum of two signs: `sine` takes it as none or one half
+// of a turn, with no branch.
 #[derive(Clone, Copy, Debug, PartialEq, Eq)]
 struct Angle {
     phase: u64,
@@ -114,7 +117,8 @@ impl Angle {
     }
 }
 
-// sin(pi x), |x| < 2^22; any other x is refused.
+// sin(pi x), |x| < 2^22; any other x is refused. This and the next three are what C calls, each with a promise of its
+// own; what they share is `Angle`.
 pub fn sinpi(x: f32) -> Result<u32, Refusal>
     ensures { Gives float_bits (SinPi x) result }
 {

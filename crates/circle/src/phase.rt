@@ -1,5 +1,5 @@
-// The phase of an angle: how many turns it is, in units of 2^-64, whole turns left out. Angles come as the bit pattern of
-// a float's size.
+// The phase of an angle: how many turns it is, in units of 2^-64, whole turns left out. Angles come as the bit pattern
+// of a float's size.
 
 ghost use Rattle.std.specs.Prelude.{◌≡◌, ◌+◌, ◌-◌, ◌*◌, ◌/◌, ◌%◌, ◌^◌, ◌<◌, ◌≤◌, MatchOption};
 ghost use Rattle.circle.specs.Phase.{significand_of, half_turns, word_of, joined_of, window_of, radians};
@@ -38,8 +38,8 @@ fn significand(size: u32) -> u64
     u64::from(size % 8388608 + 8388608)
 }
 
-// pi times the size, below 2^22: half as many turns. The digits are shifted to their place; above it whole turns fall out,
-// and below it the rest.
+// pi times the size, below 2^22: half as many turns. The digits are shifted to their place; above it whole turns fall
+// out, and below it the rest.
 #[tactic(auto, using(crate::proofs::Shifts::shifts), unfolding(crate::specs::Phase::half_turns))]
 pub fn half_turns(size: u32) -> Option<u64>
     ensures { MatchOption result (0x4a800000 ≤ size) (λ phase. (size < 0x4a800000) × (phase ≡ half_turns size)) }
@@ -56,6 +56,7 @@ pub fn half_turns(size: u32) -> Option<u64>
 }
 
 // A word's digits from the s-th on, and the next word's first ones: shifts of 32 bits, and no digit meets another.
+// `fixed::upper_word` is no twin: there no digit may fall out, and here the word's first s do.
 fn joined(word: u32, next: u32, s: u32) -> u32
     requires { s < 32 }
     ensures { result ≡ joined_of word next s }

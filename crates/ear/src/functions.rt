@@ -173,7 +173,8 @@ fn loudness<'a>(alloc: Global, floats: &[f32]) -> Result<String, Complaint<'a>>
     Ok(each(alloc, values, |a| earmath::ear_loudness(channel, a))?)
 }
 
-// The answer of a function, in one line.
+// The answer of a function, in one line. A match and no table of functions: `rt ci` refuses a function pointer that is
+// handed out.
 pub fn apply<'a>(
     alloc: Global,
     function: Function,

@@ -97,6 +97,7 @@ fn read_line(input: &mut impl BufRead, line: &mut Vec<u8>) -> End
     ensures too_long { result ≡ End.Length → 65536 ≤ vec_len line.new }
 {
     line.clear();
+    // `as`, since no From makes a u64 of a usize
     let _ = input.by_ref().take(TOO_LONG as u64).read_until(b'\n', line);
     if line.pop_if(|byte| *byte == b'\n').is_some() {
         End::Newline
@@ -148,6 +149,7 @@ fn argument(rt: &(impl Env + AllocGlobal), i: usize) -> Result<Option<Vec<u8>>, 
 // The words of the command line, without the program's name.
 fn arguments(rt: &(impl Env + AllocGlobal)) -> Result<Vec<Vec<u8>>, AllocError> {
     let mut words = Vec::new(rt.alloc());
+    // counted, and no `env::args`, as `argument` says
     for i in 1..usize::MAX {
         let Some(word) = argument(rt, i)? else {
             break;

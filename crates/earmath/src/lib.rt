@@ -1,5 +1,6 @@
 // Earmath for Rattle: each function with its whole promise as its contract. An answer is a result's bit pattern, which
-// no float instruction touches, or a refusal. The crate earmath_c exports them for C, by codes and result places.
+// no float instruction touches, or a refusal. The crate earmath_c exports them for C, by codes and result places. Lists
+// are plain slices: a type that holds how long they are would ask more of callers, who get BadLength instead.
 
 #![tactic(auto)]
 
@@ -194,8 +195,7 @@ pub fn ear_currents(
     path::currents(top, x, w, bands, out)
 }
 
-// The sum of the products of two lists: the float nearest to the exact sum, or BadLength or OutOfRange and nothing
-// written.
+// The sum of the products of two lists: the float nearest to the exact sum, or BadLength or OutOfRange.
 pub fn ear_dot_nearest(a: &[f32], b: &[f32]) -> Result<u32, Refusal>
     ensures { Gives float_bits (NearestDot a.now b.now) result }
 {

@@ -1,5 +1,6 @@
 // The C interface: one exported function for each of earmath's, with the same promise. include/earmath.h says the same
-// in words.
+// in words. C is why an answer is a code and a place here, why a channel is loose numbers, and why each function stands
+// by itself, generic over nothing.
 
 #![tactic(auto)]
 

@@ -15,7 +15,8 @@ const ONE: u32 = 0x3f80_0000;
 
 const FULL: u64 = 0x0100_0000_0000_0000;
 
-// Refused: six words with bins out of order or above 64, or that make no channel of a stimulator with the steps 0 to top.
+// Refused: six words with bins out of order or above 64, or that make no channel of a stimulator with the steps 0 to
+// top.
 fn check(top: u32, words: &[u32; 6]) -> Result<(), Refusal>
     ensures { MatchResult result (λ _. IsBand top words.now 0) (λ e. (e ≡ BadChannel) × ¬ IsBand top words.now 0) }
 {
@@ -57,7 +58,8 @@ fn envelope(s: u64) -> f32
     }
 }
 
-// The current of the band of six words that were accepted. It reads them itself: of a band that `check` gives and `unwrap` takes the chip tests all again.
+// The current of the band of six words that were accepted. The words are read a second time, here: a band that `check`
+// answers and that is unwrapped here was tried, and the chip made all tests again, 22 instructions a band.
 fn current(top: u32, words: &[u32; 6], sizes: Sizes) -> u32
     requires { IsBand top words.now 0 }
     ensures { result ≡ current_of sizes.entry.words.now words.now }
@@ -72,7 +74,7 @@ fn current(top: u32, words: &[u32; 6], sizes: Sizes) -> u32
     Segment { channel }.step(envelope(sizes.sum(low, high)))
 }
 
-// Those of all of them.
+// Those of all of them. By one index and no `zip`, which is wrong on the chip (docs/DECISIONS.md).
 pub fn steps(top: u32, bands: &[[u32; 6]], sizes: Sizes, out: &mut [u32])
     requires { AllBands top bands.now × (length bands.now ≡ length out.old) }
     ensures { SteppedBy sizes.entry.words.now bands.now (length out.old) out.new }

@@ -73,7 +73,7 @@ impl<'a> Frame<'a> {
         floats::largest(x) <= ONE && floats::largest(w) <= ONE
     }
 
-    // The products of all of them.
+    // The products of all of them. By one index and no `zip`, which is wrong on the chip (docs/DECISIONS.md).
     pub fn products(&self, y: &mut [u64; 128])
         ensures { Products self.now.x.now self.now.w.now y.new }
     {

@@ -1,5 +1,5 @@
-// From a frame of samples to the currents of the electrodes: window, transform, sizes, bands and the loudness map. Whole numbers inside, and one rounding
-// to a float before the map.
+// From a frame of samples to the currents of the electrodes: window, transform, sizes, bands and the loudness map.
+// Whole numbers inside, and one rounding to a float before the map.
 
 #![tactic(auto)]
 
@@ -52,7 +52,8 @@ fn hear(top: u32, frame: &Frame, bands: &[[u32; 6]], out: &mut [u32])
     requires { AllBands top bands.now × (length bands.now ≡ length out.old) }
     ensures { Heard frame.now.x.now frame.now.w.now bands.now (length out.old) out.new }
 {
-    // Two lists of words, written before they are read: any value will do, and of one that the compiler knows it would make a call of memset.
+    // Two lists of words, written before they are read. They are filled with a number that is known at run time, since
+    // zeros would be a call of memset, which is not in the archive.
     let any = u64::from(top);
     let mut y = [any; 128];
     frame.products(&mut y);

@@ -8,7 +8,8 @@ use spectrum::words::UNIT;
 // From here on a sum of squares has 63 digits.
 const LONG: u64 = 0x4000_0000_0000_0000;
 
-// The root of the squares n of parts that were shifted up by z places.
+// The root of the squares n of parts that were shifted up by z places. Two cuts by known shifts: one by a shift that is
+// computed takes the chip more instructions.
 fn rooted(n: u64, z: u32) -> u64
     requires { (2 ^ 60 ≤ n) × (n < 2 ^ 63) × (z < 64) }
     ensures { (result ≡ rooted n z) × Rooted n z result }
@@ -68,7 +69,8 @@ impl Part {
     }
 }
 
-// The moduli of all of them, from the front of y on.
+// The moduli of all of them, from the front of y on: the products there are done with, so that no third list is needed.
+// By number: a part k is made of the words k and 128 - k.
 pub fn moduli(r: &[u64; 128], y: &mut [u64; 128])
     requires { Parts r.now }
     ensures { Moduli r.now y.new }

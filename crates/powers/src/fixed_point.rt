@@ -8,7 +8,8 @@ ghost use Rattle.powers.specs.Fixed.{argument_of};
 
 use super::bases::Base;
 
-// x + 126, or x log2 e + 126 where the base is e, as a whole number of 2^-32; x from -87 to 88.
+// x + 126, or x log2 e + 126 where the base is e, as a whole number of 2^-32; x from -87 to 88. A number and no struct
+// of digits and exponent, which cost 24 instructions with two bases (docs/DECISIONS.md, "One softmax for two bases").
 pub fn argument<B: Base>(x: f32) -> u64
     requires { Accepts x }
     ensures { result ≡ argument_of B.base x }

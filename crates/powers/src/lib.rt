@@ -43,7 +43,8 @@ fn raise(f: u32) -> u32
 }
 
 // x + 126 as a whole number of 2^-32, of an x whose digits all stay, by one product of 32-bit words: of a negative x
-// with 2^32 less the power of two, and the digits taken from the whole part. What runs over 64 bits is 2^64.
+// with 2^32 less the power of two, and the digits taken from the whole part. What runs over 64 bits is 2^64. Here and
+// in three functions below a clause says that x is accepted, and no type: each would take x out of its struct again.
 fn whole_cut(x: f32) -> u64
     requires { Accepts x × (118 * 8388608 ≤ to_bits binary32 x % 2147483648) }
     ensures { result ≡ cut_of x }

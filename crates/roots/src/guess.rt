@@ -1,7 +1,7 @@
-// First guesses at a root and a reciprocal root: a row of coefficients by the first digits of m and the parity of e, and a
-// polynomial of degree 3 in the other digits, in words of 32 bits. Nothing is promised of a guess but its size, so sums may
-// wrap; the rows come from tools/root_tables.py. m and e come as two numbers and not as a float's Parts: a whole number's
-// root is guessed at by its first digits and their parity, which are no float's.
+// First guesses at a root and a reciprocal root: a row of coefficients by the first digits of m and the parity of e,
+// and a polynomial of degree 3 in the other digits, in words of 32 bits. Nothing is promised of a guess but its size,
+// so sums may wrap; the rows come from tools/root_tables.py. m and e come as two numbers and not as a float's Parts: a
+// whole number's root is guessed at by its first digits and their parity, which are no float's.
 
 ghost use Rattle.std.specs.Prelude.{◌^◌, ◌<◌};
 

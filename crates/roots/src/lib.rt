@@ -21,8 +21,8 @@ const LEAST_NORMAL: u32 = 0x0080_0000;
 // The pattern of infinity, which that of every finite float above zero is below.
 const INFINITY: u32 = 0x7f80_0000;
 
-// Whether s is the whole number nearest to the root of n, in one test: n - s^2 + s - 1 is from 0 to 2 s - 1, and below 0
-// it wraps to far more.
+// Whether s is the whole number nearest to the root of n, in one test: n - s^2 + s - 1 is from 0 to 2 s - 1, and below
+// 0 it wraps to far more.
 fn is_root(n: u64, s: u32) -> bool
     requires { (n < 2 ^ 48) × (s < 2 ^ 26) }
     ensures { result ≡ true → IsNear n s }
@@ -31,8 +31,9 @@ fn is_root(n: u64, s: u32) -> bool
     (n + w).wrapping_sub(w * w + 1) < 2 * w
 }
 
-// The least number that is not too small, whatever the guess: up while it is too small, down while the one below is not.
-// Two loops walk a counter: no range to search is known beforehand, and nearly always no step is taken.
+// The least number that is not too small, whatever the guess: up while it is too small, down while the one below is
+// not. Two loops walk a counter, since `find` in a range would answer an Option, and nearly always no step is taken.
+// That a guess is below 2^26 stands in the contracts and in no type: it is counted up and down.
 fn settle<F: Fn(u32) -> bool>(guess: u32, is_too_small: F) -> u32
     requires digits { guess < 2 ^ 26 }
     requires may { (s : ℕ) → s < 2 ^ 26 → F.pre is_too_small s }
@@ -85,9 +86,9 @@ fn root_bits(x: f32) -> u32
     (e / 2 + 51) * 8388608 + settle_root(n, guess::root(m, e))
 }
 
-// The nearest float to the root of x, of a zero the same zero; a NaN, what is below zero and an infinity are refused. One
-// test of the pattern tells the normal floats above zero. The zeros are told one by one: of one test for both the compiler
-// makes one of floats, which takes a subnormal for a zero where the float unit reads it so.
+// The nearest float to the root of x, of a zero the same zero; a NaN, what is below zero and an infinity are refused.
+// One test of the pattern tells the normal floats above zero. The zeros are told one by one: of one test for both the
+// compiler makes one of floats, which takes a subnormal for a zero where the float unit reads it so.
 pub fn sqrt(x: f32) -> Result<u32, Refusal>
     ensures { Gives float_bits (Sqrt x) result }
 {
@@ -125,8 +126,8 @@ fn settle_reciprocal(m: u32, t: u32, guess: u32) -> u32
     settle(guess, move |h| odd_square(h, m) < t)
 }
 
-// The reciprocal root of a float above zero, as a bit pattern: the power of two over the significand has 47 or 48 digits
-// before the point, its root 24.
+// The reciprocal root of a float above zero, as a bit pattern: the power of two over the significand has 47 or 48
+// digits before the point, its root 24.
 fn reciprocal_bits(x: f32) -> u32
     requires { Positive x }
     ensures { result ≡ rsqrt_bits x }

@@ -33,8 +33,8 @@ pub fn number_bits(x: f32) -> u32
 // 2^(digits - 53) least floats, so that the largest has 53 digits, subnormal or not.
 #[derive(Clone, Copy, Debug, PartialEq, Eq)]
 pub struct Scaling {
-    digits: u32,
-    ghost high: { digits ≤ 269 },
+    pub digits: u32,
+    pub ghost high: { digits ≤ 269 },
 }
 
 impl Scaling {
@@ -94,7 +94,8 @@ impl Scaling {
         requires within { (i : ℕ) → i < 128 → Number (at x.now i) × (mag (at x.now i) < 2 ^ self.digits) }
         ensures { Loaded self.digits x.now y.new }
     {
-        // by index, since of what is written through a zipped `iter_mut` no element is known afterwards
+        // by one index and no `zip`: through that no element that was written is known afterwards, and on the chip it
+        // is wrong (docs/DECISIONS.md, "No reference in an Option on the chip")
         for (i, a) in x.iter().enumerate() {
             y[i] = self.load(*a);
         }

@@ -62,7 +62,7 @@ fn cosine(j: u32) -> u64
     COSINES[(j - 1) as usize]
 }
 
-// The row j.
+// The row j, 1 to 31. A bare number here and in `words`, since a butterfly has it as a product, k times a stage's st.
 pub fn row(j: u32) -> Turn
     requires { (1 ≤ j) × (j < 32) }
     ensures { (result.c ∷ result.s ∷ result.z ∷ result.y ∷ []) ≡ row_of j }

@@ -26,7 +26,7 @@ fn part(v: u64, w: u64) -> u64
     vh * wh + vh * wl / 4294967296 + vl * wh / 4294967296
 }
 
-// The real and the imaginary part of a value, as words.
+// The real and the imaginary part of a value, as words. No invariant says `Inside`: what `turned` makes is outside.
 #[derive(Clone, Copy, Debug, PartialEq, Eq)]
 struct Pair {
     re: u64,

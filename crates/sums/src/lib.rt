@@ -95,7 +95,8 @@ impl<'a> Pair<'a> {
         self.with_block::<ThirtyTwo>(s)
     }
 
-    // All blocks of 64 counted, and what the tally holds added to the rest.
+    // All blocks of 64 counted, and what the tally holds added to the rest. By number: a block's number says how far
+    // its carry runs.
     fn blocks(self, rest: f32) -> f32
         requires { (64 ≤ length self.a.now) × (rest ≡ behind_last 64 self.a.now self.b.now) }
         ensures { result ≡ dot_of self.entry.a.now self.entry.b.now }
@@ -136,6 +137,7 @@ trait Block {
         ensures { result ≡ block_of level pair.entry.a.now pair.entry.b.now };
 }
 
+// Two products. As `Twice` it is never made: the type alone says how long a block is, so that nothing is derived.
 struct Two;
 
 impl Block for Two {
@@ -175,7 +177,8 @@ impl<B: Block> Block for Twice<B> {
     }
 }
 
-// The sums of 1, 2, 4, .. blocks of 64 products, as the digits of a binary number.
+// The sums of 1, 2, 4, .. blocks of 64 products, as the digits of a binary number. They are lent, and neither copied
+// nor compared.
 #[derive(Drop)]
 struct Tally {
     held: [f32; 11],
@@ -190,7 +193,8 @@ impl Tally {
         let mut s = pair.behind((64 * i) as usize).sixty_four();
         let mut l = 0;
         let mut c = i;
-        // A `while`: it ends at the first digit that is 0, and no range has the digits of a number.
+        // A `while`: it ends at the first digit that is 0, and for the range `0..i.trailing_ones()` that digit would be
+        // looked for beforehand, which is no plainer.
         while c % 2 == 1 {
             s = self.held[l] + s;
             l += 1;

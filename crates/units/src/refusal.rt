@@ -6,7 +6,8 @@ ghost use Rattle.units.specs.Refusals.{code_of};
 use std::error::Error;
 use std::fmt;
 
-// The refusals of all functions. C has them by their codes, and the command line by their names.
+// The refusals of all functions. C has them by their codes, and the command line by their names. The codes stand in the
+// conversion alone and in no discriminants, so that only the C interface asks for a number.
 #[derive(Clone, Copy, Debug, PartialEq, Eq, Hash)]
 pub enum Refusal {
     // an argument that the function does not accept

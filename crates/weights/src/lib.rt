@@ -54,12 +54,15 @@ fn unlocked(k: u32) -> u32
     }
 }
 
-// The largest key of all elements, where every one is accepted.
+// The largest key of all elements, where every one is accepted. Source and places, x and p, stay two parameters here
+// and below: in place the source is p itself and is written over, so that a struct of both would have no lasting
+// invariant.
 fn judge<S: Source>(x: S, p: &[u32]) -> Result<u32, Refusal>
     requires { Sized (S.source x) p.now × (length p.now ≤ 1024) }
     ensures { IsJudged (source_of (S.source x) p.now) result }
 {
-    // The index is a u32 in all three loops, since a usize has 64 bits and the chip's registers have 32.
+    // All three loops go by an index, since the source may be p itself. It is a u32: a usize has 64 bits, and the
+    // chip's registers have 32.
     let n = p.len() as u32;
     let mut top: u32 = 0;
     for i in 0..n {
