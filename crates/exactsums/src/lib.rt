@@ -57,7 +57,9 @@ fn times(x: u32, y: u32) -> Product
     }
 }
 
-// Two rows of bins, for the products above zero and for those below, the lowest place first.
+// Two rows of bins, for the products above zero and for those below, the lowest place first. Not `Copy`: 656 bytes are
+// lent, never copied. One list of 82 bins and an offset took the chip an instruction less for each product; a choice of
+// `&mut self.above` or `&mut self.below` in `add`, or two lists in a list, compile to the same as this does.
 #[derive(Drop)]
 struct Rows {
     above: [u64; 41],
@@ -114,7 +116,7 @@ impl Rows {
     }
 
     // The first row less the second, as digits base 16: both are carried upward, and what is borrowed counts with the
-    // second.
+    // second. By places of 32 bits, as in `gather`: three lists are gone through at once.
     fn subtract(&self, digits: &mut [u32; 41]) -> Left
         requires { Small 4097 self.now × Digits digits.old }
         ensures { Subtracted self.now digits.new result.over result.under }
@@ -141,9 +143,19 @@ impl Rows {
         let mut digits = [1u32; 41];
         let d = self.subtract(&mut digits);
         if d.under <= d.over {
-            return rounded(d.over - d.under, &digits, false);
+            let above = Size {
+                top: d.over - d.under,
+                digits: &digits,
+                below: false,
+            };
+            return above.rounded();
         }
-        2147483648 + rounded(d.under - d.over - 1, &digits, true)
+        let below = Size {
+            top: d.under - d.over - 1,
+            digits: &digits,
+            below: true,
+        };
+        2147483648 + below.rounded()
     }
 }
 
@@ -154,20 +166,8 @@ struct Left {
     under: u64,
 }
 
-// 0 where the lowest i digits are all 0, and else 1.
-fn rest(digits: &[u32; 41], i: u32) -> u64
-    requires { Digits digits.now × (i ≤ 41) }
-    ensures { Sticky (number digits.now 0 i) result }
-{
-    // A sum and one test, and no `any`: on the chip that finds no references, as `gather` says.
-    let mut sum = 0;
-    for j in 0..i {
-        sum += digits[j as usize];
-    }
-    if sum == 0 { 0 } else { 1 }
-}
-
-// A digit, or what it lacks of 15.
+// A digit, or what it lacks of 15. `below`, here and in what follows, is the sign of a number, which is known at run
+// time: a type for either sign would put two copies of `rounded` into the archive.
 fn digit(d: u32, below: bool) -> u64
     requires { d < 16 }
     ensures { IsDigit d below result }
@@ -182,22 +182,7 @@ struct First {
     i: u32,
 }
 
-// The head of top * 16^41 + digits; below zero, less one in its last place, that of (top + 1) * 16^41 - digits.
-fn head(top: u64, digits: &[u32; 41], below: bool) -> First
-    requires { Digits digits.now × (top ≤ 2 ^ 60) }
-    ensures { IsHead top digits.now below result.h result.i }
-{
-    let mut h = top;
-    let mut i: u32 = 41;
-    // A `while`: it goes down and ends early, and `rev` would ask for an `Option` of a reference.
-    while 0 < i && h < 144115188075855872 {
-        i -= 1;
-        h = 16 * h + digit(digits[i as usize], below);
-    }
-    First { h, i }
-}
-
-// The head as it is; below zero with that one, unless something is left below it.
+// The head as it is; below zero with the one that it was less by, unless something is left below it.
 fn closed(h: u64, s: u64, below: bool) -> u64
     requires { (h < 2 ^ 61) × (s ≤ 1) }
     ensures { IsClosed h s below result }
@@ -205,16 +190,55 @@ fn closed(h: u64, s: u64, below: bool) -> u64
     if below { h + 1 - s } else { h }
 }
 
-// The pattern of the float nearest to the size of that number: its head as a whole number, one more digit that says
-// whether any of the rest is set, and one rounding.
-fn rounded(top: u64, digits: &[u32; 41], below: bool) -> u32
-    requires { Digits digits.now × (top ≤ 2 ^ 60) }
-    ensures { result ≡ float_bits (rounded (size_of top digits.now below * 2 ^ 172) 0) }
-{
-    let t = head(top, digits, below);
-    let i = t.i;
-    let s = rest(digits, i);
-    fixed::even_bits(2 * closed(t.h, s, below) + s, 62 + 4 * i)
+// How far a number is from 0: top * 16^41 + digits; below zero (top + 1) * 16^41 - digits. Lent and never passed
+// by value, hence not `Copy`: with a reference in it, it lies otherwise on the chip than in the module (see `gather`).
+#[derive(Drop)]
+struct Size<'a> {
+    top: u64,
+    digits: &'a [u32; 41],
+    below: bool,
+    ghost each: { Digits digits.now },
+    ghost few: { top ≤ 2 ^ 60 },
+}
+
+impl<'a> Size<'a> {
+    // 0 where the lowest i digits are all 0, and else 1.
+    fn rest(&self, i: u32) -> u64
+        requires { i ≤ 41 }
+        ensures { Sticky (number self.now.digits.now 0 i) result }
+    {
+        // A sum and one test, and no `any`: on the chip that finds no references, as `gather` says.
+        let mut sum = 0;
+        for j in 0..i {
+            sum += self.digits[j as usize];
+        }
+        if sum == 0 { 0 } else { 1 }
+    }
+
+    // Its head; below zero, less one in its last place.
+    fn head(&self) -> First
+        ensures { IsHead self.now.top self.now.digits.now self.now.below result.h result.i }
+    {
+        let mut h = self.top;
+        let mut i: u32 = 41;
+        // A `while`: it goes down and ends early, and `rev` would ask for an `Option` of a reference.
+        while 0 < i && h < 144115188075855872 {
+            i -= 1;
+            h = 16 * h + digit(self.digits[i as usize], self.below);
+        }
+        First { h, i }
+    }
+
+    // The pattern of the float nearest to it: its head as a whole number, one more digit that says whether any of the
+    // rest is set, and one rounding.
+    fn rounded(&self) -> u32
+        ensures { result ≡ float_bits (rounded (size_of self.now.top self.now.digits.now self.now.below * 2 ^ 172) 0) }
+    {
+        let t = self.head();
+        let i = t.i;
+        let s = self.rest(i);
+        fixed::even_bits(2 * closed(t.h, s, self.below) + s, 62 + 4 * i)
+    }
 }
 
 // The float nearest to the sum of the products a_i b_i; refused where lengths or an element are. Each bin starts at 1:

@@ -21,8 +21,9 @@ use units::Refusal;
 const AT_ONE: u64 = 0x1fc0_0000_0000_0000;
 
 // The logarithm over the distance from the nearer power of two: the row of the sixteenth, at the distance from its
-// upper end.
+// upper end. Inlined always, since `fixed_bits` is.
 #[tactic(auto, unfolding(crate::specs::Value::slope))]
+#[inline(always)]
 fn slope(b: u32) -> u32
     ensures { result ≡ slope b }
 {
@@ -43,6 +44,8 @@ fn upper(b: u32, k: u32, p: u32) -> u32
 // log2 x + 127 in steps of 2 ^ -54, by the pattern b of x: the exponent of the nearer power of two, and slope times
 // distance. With k for the pattern of that power, the distance is b - k, of either sign, so that both sides of the cut
 // are one formula: one that is negative wraps, and its product has the slope too much in the upper word.
+// Inlined always: loudness::fitted::step takes it twice, and keeps it as a call else, 8 instructions more.
+#[inline(always)]
 pub fn fixed_bits(b: u32) -> u64
     requires { b < 2 ^ 31 }
     ensures { result ≡ fixed_bits b }

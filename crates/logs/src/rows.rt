@@ -46,6 +46,8 @@ impl Row {
 
     // Its value at v, by Horner's rule: each product of two words is cut off to its upper half, which is below v. The
     // steps are written out: of a `fold` over the reversed row the check doesn't see that the sum fits at each turn.
+    // Inlined always, since `fixed_bits` is.
+    #[inline(always)]
     pub fn at(self, v: u32) -> u32
         requires { v ≤ 2 ^ 28 }
         ensures { result ≡ horner 4294967296 self.coefficients v }

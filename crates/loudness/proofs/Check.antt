@@ -1,5 +1,5 @@
 -- The check of a segment's words: six words, their sum, and what a changed word does to it. Assumes nothing.
-use Rattle.std.proofs.Common.{◌≡◌, ℕ, zero, suc, ◌+◌, ◌-◌, ◌%◌, ◌^◌, ◌<◌, List, [], ◌∷◌, length, get_or, take, drop, set, refl, ap, ◌∙◌, le_of_eq, arith, length-drop, take_all}
+use Rattle.std.proofs.Common.{◌≡◌, ℕ, zero, suc, ◌+◌, ◌-◌, ◌%◌, ◌^◌, ◌<◌, List, [], ◌∷◌, length, get_or, set, refl, ap, ◌∙◌, arith}
 use Rattle.loudness.specs.Words.{total, check_sum, check_of, five_words, Passes}
 use Rattle.loudness.specs.Fitted.{Changed}
 
@@ -44,9 +44,9 @@ pub total_six : (w : List ℕ) → length w ≡ 6 → total w ≡ get_or w 0 0 +
 unfolding total
 total_six w h = let s = six w h in rw s.same (omega arith)
 
--- six words after six
-pub rest : (w : List ℕ) → take (length w - 6) (drop 6 w) ≡ drop 6 w
-rest w = take_all (length w - 6) (drop 6 w) (le_of_eq (length-drop 6 w))
+-- six words written over six
+pub all_set : (w : List ℕ) → length w ≡ 6 → (a b c d e f : ℕ) → set (set (set (set (set (set w 0 a) 1 b) 2 c) 3 d) 4 e) 5 f ≡ a ∷ b ∷ c ∷ d ∷ e ∷ f ∷ []
+all_set w h a b c d e f = let s = six w h in rw s.same
 
 -- a changed word changes the sum by as much
 changed_total : (w : List ℕ) (j v : ℕ) → j < length w → total (set w j v) + get_or w j 0 ≡ total w + v

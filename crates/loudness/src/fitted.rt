@@ -22,7 +22,8 @@ use words::Words;
 fn chosen(w: &[u32], a: f32) -> Result<&[u32; 6], Refusal>
     ensures { MatchResult result (λ v. ChosenWords w.now a v.now) (λ e. Gives itself (Step w.now a) (Err e)) }
 {
-    // No call here returns an Option of one reference: compiled for a chip of 32 bits from the module of 64, it is lost.
+    // No call here returns an Option of one reference: compiled for a chip of 32 bits from the module of 64, it is
+    // lost.
     let Some((lower, rest)) = w.split_first_chunk() else {
         return Err(Refusal::BadLength);
     };
@@ -69,11 +70,12 @@ pub fn fit(top: u32, channel: Channel, w: &mut [u32]) -> Result<(), Refusal>
         return Err(Refusal::BadLength);
     }
     let segment = channel.segment(top)?;
-    w.copy_from_slice(&Words::of(segment).checked());
+    segment.fit(w);
     Ok(())
 }
 
-// The words of a bent channel, likewise: those of its two segments.
+// The words of a bent channel, likewise: those of its two segments. Not one function with `fit`: all that they share is
+// the test of a length.
 pub fn fit_knee(top: u32, channel: BentChannel, w: &mut [u32]) -> Result<(), Refusal>
     ensures { Ends as_they_are
         (Fits (IsBentChannel top channel.b channel.k channel.m channel.t channel.s channel.c)
@@ -84,7 +86,7 @@ pub fn fit_knee(top: u32, channel: BentChannel, w: &mut [u32]) -> Result<(), Ref
         return Err(Refusal::BadLength);
     }
     let (lower, upper) = channel.segments(top)?;
-    w[..6].copy_from_slice(&Words::of(lower).checked());
-    w[6..].copy_from_slice(&Words::of(upper).checked());
+    lower.fit(&mut w[..6]);
+    upper.fit(&mut w[6..]);
     Ok(())
 }

@@ -1,7 +1,8 @@
 // The words of a fitted segment: written from a segment, read with their check, and the steps that they give.
 
-ghost use Rattle.std.specs.Prelude.{◌≡◌, ◌+◌, ◌%◌, ◌^◌, ◌<◌, ◌≤◌, slice_index, MatchResult};
+ghost use Rattle.std.specs.Prelude.{◌≡◌, ◌+◌, ◌%◌, ◌^◌, ◌<◌, ◌≤◌, slice_index, length, MatchResult};
 ghost use Rattle.units.specs.declared.refusal.Refusal.TheVariants.{BadChannel};
+ghost use Rattle.loudness.specs.Segment.{Segment as IsSegment};
 ghost use Rattle.loudness.specs.Words.{Passes, threshold_of, range_of, rise_to, upper_of, scaled, steps_in};
 ghost use Rattle.loudness.specs.Words.{factor_of, check_of, segment_words};
 
@@ -13,7 +14,8 @@ use units::Refusal;
 // What the words of a segment sum to, modulo 2^32.
 const CHECK: u32 = 0xeaea_eaea;
 
-// The words of a segment but for their check, which follows from them. A contract sees all six.
+// The words of a segment but for their check, which follows from them. A contract sees all six. They are made and read,
+// and neither copied nor compared.
 #[derive(Drop)]
 pub struct Words {
     // 4194304 T + 4096 (C - T) + the upper digits of the factor
@@ -63,7 +65,7 @@ fn factor(k: u32, h: u32) -> u64
     q * 4294967296 + u64::from(fixed::division::quotient(r * 4294967296, h)) + 1
 }
 
-// The word that makes the sum of five others the check.
+// The word that makes the sum of five others the check. Five numbers, since `read` asks before there are `Words`.
 fn check(s: u32, l: u32, h: u32, p: u32, r: u32) -> u32
     ensures { result ≡ check_of (s + l + h + p + r) }
 {
@@ -77,10 +79,10 @@ fn check(s: u32, l: u32, h: u32, p: u32, r: u32) -> u32
 
 impl Words {
     // The words of a segment.
-    pub fn of(segment: Segment) -> Words
-        ensures { result ≡ segment_words segment.channel.b segment.channel.m segment.channel.t segment.channel.c }
+    fn of(b: f32, m: f32, t: u32, c: u32) -> Words
+        requires { IsSegment b m t c }
+        ensures { result ≡ segment_words b m t c }
     {
-        let Channel { b, m, t, c } = segment.channel;
         let level = logs::fixed_log2(b);
         let span = logs::fixed_log2(m) - level;
         let places = ((span / 4294967296) as u32).leading_zeros();
@@ -95,9 +97,11 @@ impl Words {
         }
     }
 
-    // They and their check.
-    pub fn checked(&self) -> [u32; 6]
-        ensures { result ≡ self.now }
+    // They and their check, over six words. One by one: `copy_from_slice` becomes a call, and the chip's archive makes
+    // none.
+    fn write(&self, w: &mut [u32])
+        requires { length w.old ≡ 6 }
+        ensures { w.new ≡ self.now }
     {
         let Words {
             steps,
@@ -106,14 +110,12 @@ impl Words {
             power,
             digits,
         } = *self;
-        [
-            steps,
-            low,
-            high,
-            power,
-            digits,
-            check(steps, low, high, power, digits),
-        ]
+        w[0] = steps;
+        w[1] = low;
+        w[2] = high;
+        w[3] = power;
+        w[4] = digits;
+        w[5] = check(steps, low, high, power, digits);
     }
 
     // The words of a list whose check holds.
@@ -167,5 +169,26 @@ impl Words {
             return if 0x8000_0000_0000_0000 <= n { 0 } else { k };
         }
         scaled(y as u32, self.steps % 4096, self.digits).min(k)
+    }
+}
+
+// The words of a segment, over six. Of plain numbers, as `segment_step` is: the struct and its words go through memory
+// else, 44 bytes of stack more.
+fn write(b: f32, m: f32, t: u32, c: u32, w: &mut [u32])
+    requires { IsSegment b m t c × (length w.old ≡ 6) }
+    ensures { w.new ≡ segment_words b m t c }
+{
+    Words::of(b, m, t, c).write(w);
+}
+
+impl Segment {
+    // Its words, over six. Inlined always, as `Segment::step` is.
+    #[inline(always)]
+    pub(crate) fn fit(self, w: &mut [u32])
+        requires { length w.old ≡ 6 }
+        ensures { w.new ≡ segment_words self.channel.b self.channel.m self.channel.t self.channel.c }
+    {
+        let Channel { b, m, t, c } = self.channel;
+        write(b, m, t, c, w);
     }
 }

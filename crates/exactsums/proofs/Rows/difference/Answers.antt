@@ -1,4 +1,5 @@
--- `Rows::difference` meets its contract: where more was borrowed than carried, the difference is below zero. Assumes nothing.
+-- `Rows::difference` meets its contract: where more was borrowed than carried, the difference is below zero. Assumes
+-- nothing.
 use mathlib.Core.Path.{◌≡◌, ap, ◌∙◌}
 use Prim.Native.Nat.{ℕ, ◌+◌, ◌*◌, ◌^◌}
 use native.Mathlib.Nat.{lt_of_le_of_lt, le_of_eq}
@@ -14,24 +15,12 @@ pub subtract-d-requires : goal.subtract-d-requires
 subtract-d-requires c = (c.requires, ones_digits)
 
 -- ---- above zero, or 0
-pub rounded-requires : goal.rounded-requires
-rounded-requires c = (c.subtract-d.ensures.digits_each, omega (arith, c.subtract-d.ensures.over_small))
-
 pub returns-then-d : goal.returns-then-d
 returns-then-d c =
     let d = c.subtract-d.result in
     c.rounded.ensures ∙ ap float_bits (positive c.args.self.now _ d.over d.under c.subtract-d.ensures c.if-d.true)
 
 -- ---- below zero
-pub overflow_sub-d-2 : goal.overflow_sub-d-2
-overflow_sub-d-2 c = omega (arith, c.if-d.false)
-
-pub overflow_sub-d-3 : goal.overflow_sub-d-3
-overflow_sub-d-3 c = omega (arith, c.if-d.false)
-
-pub rounded-requires-2 : goal.rounded-requires-2
-rounded-requires-2 c = (c.subtract-d.ensures.digits_each, omega (arith, c.subtract-d.ensures.under_small))
-
 turned : (c : After-rounded-2)
     → 2147483648 + c.rounded-2.result
     ≡ float_bits (rounded (number c.args.self.now.above 0 41 * 2 ^ 172) (number c.args.self.now.below 0 41 * 2 ^ 172))

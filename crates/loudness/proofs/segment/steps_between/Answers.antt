@@ -1,16 +1,16 @@
--- `loudness::segment::Segment::steps_between` meets its contract: three logarithms, two rises, one quotient. Assumes nothing.
+-- `loudness::segment::steps_between` meets its contract: three logarithms, two rises, one quotient. Assumes nothing.
 use Rattle.std.proofs.Common.{◌≡◌, ℕ, ◌-◌, ◌≤◌, sym, ◌∙◌, ap₂, le_trans, le_of_eq, le_of_lt, arith}
 use Rattle.loudness.specs.Value.{rise_of, places_of, word_of, steps_of}
 use Rattle.loudness.proofs.Known.{Sound, low_sound, high_sound, accepted, rises}
 use Rattle.loudness.proofs.Words.{places, full, word_most, rise_whole}
 use Rattle.loudness.proofs.Growth.{b≤m, between_sound, few, span_long, span_few, rise_most}
-use Rattle.loudness.proofs.segment.Segment.steps_between.Goals.{After-fixed_log2-2, Start}
-use Rattle.loudness.proofs.segment.Segment.steps_between.Goals as goal
+use Rattle.loudness.proofs.segment.steps_between.Goals.{After-fixed_log2-2, Start}
+use Rattle.loudness.proofs.segment.steps_between.Goals as goal
 
-low : (c : Start) → Sound c.args.self.channel.b
+low : (c : Start) → Sound c.args.b
 low c = low_sound c.requires.segment.levels
 
-high : (c : Start) → Sound c.args.self.channel.m
+high : (c : Start) → Sound c.args.m
 high c = high_sound c.requires.segment.levels
 
 middle : (c : Start) → Sound c.args.a
@@ -40,15 +40,15 @@ module _ (c : After-fixed_log2-2) where
   abbrev start : Start
   start = c.before.before.before
 
-  span : c.fixed_log2.result - c.fixed_log2-low.result ≡ rise_of start.args.self.channel.b start.args.self.channel.m
+  span : c.fixed_log2.result - c.fixed_log2-low.result ≡ rise_of start.args.b start.args.m
   unfolding rise_of
   span = ap₂ (λ (x y : ℕ). x - y) c.fixed_log2.ensures.value c.fixed_log2-low.ensures.value
 
-  rise : c.fixed_log2-2.result - c.fixed_log2-low.result ≡ rise_of start.args.self.channel.b start.args.a
+  rise : c.fixed_log2-2.result - c.fixed_log2-low.result ≡ rise_of start.args.b start.args.a
   unfolding rise_of
   rise = ap₂ (λ (x y : ℕ). x - y) c.fixed_log2-2.ensures.value c.fixed_log2-low.ensures.value
 
-  rise-le : rise_of start.args.self.channel.b start.args.a ≤ rise_of start.args.self.channel.b start.args.self.channel.m
+  rise-le : rise_of start.args.b start.args.a ≤ rise_of start.args.b start.args.m
   rise-le = rise_most _ _ _ _ start.requires.segment _ (middle start) (le_of_lt start.requires.below)
 
 pub overflow_cast-s : goal.overflow_cast-s

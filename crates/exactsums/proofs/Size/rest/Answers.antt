@@ -1,4 +1,5 @@
--- `exactsums::rest` meets its contract. The loop's invariant: the sum of the digits passed is 0 where their number is. Assumes nothing.
+-- `Size::rest` meets its contract. The loop's invariant: the sum of the digits passed is 0 where their number is.
+-- Assumes nothing.
 use mathlib.Core.Path.{◌≡◌, refl}
 use mathlib.Core.Logic.{inl, inr}
 use Prim.Native.Nat.{◌^◌}
@@ -6,7 +7,7 @@ use native.Mathlib.Omega.{arith}
 use lib.ListN.{get_or}
 use Rattle.exactsums.specs.Work.{number}
 use Rattle.exactsums.proofs.Bins.{number_next₀, sticky_next, sixteen_pos}
-use Rattle.exactsums.proofs.rest.Goals as goal
+use Rattle.exactsums.proofs.Size.rest.Goals as goal
 
 pub loop-j-init : goal.loop-j-init
 unfolding number
@@ -14,15 +15,22 @@ loop-j-init c = (omega arith, omega arith, inl (refl, refl))
 
 pub loop-j-preserved : goal.loop-j-preserved
 loop-j-preserved c =
-    let ds = c.args.digits.now in
-    let j = c.loop-j.j in
-    (omega arith, omega (arith, c.requires.0.each j), rw (number_next₀ ds j) (sticky_next (number ds 0 j) (get_or ds j 0) (16 ^ j) c.loop-j.sum (sixteen_pos j) c.loop-j.invariant.2))
+    let ds = c.args.self.now.digits.now in
+    let j = c.loop-j.j in (
+      omega arith,
+      omega (arith, c.args.self.now.each.each j),
+      rw (number_next₀ ds j)
+          (sticky_next (number ds 0 j) (get_or ds j 0) (16 ^ j) c.loop-j.sum (sixteen_pos j) c.loop-j.invariant.2),
+    )
 
 pub returns-then-sum-eq0 : goal.returns-then-sum-eq0
 returns-then-sum-eq0 c =
     let l = c.loop-j in
     let e : l.j ≡ c.args.i = omega arith in
-    elim l.invariant.2 [ inl (a, b) ↦ inl (rw e at a, refl) | inr (a, b) ↦ absurd (let z = c.if-sum-eq0.true in omega arith) ]
+    elim l.invariant.2 [
+      | inl (a, b) ↦ inl (rw e at a, refl)
+      | inr (a, b) ↦ absurd (let z = c.if-sum-eq0.true in omega arith)
+    ]
 
 pub returns-else-sum-eq0 : goal.returns-else-sum-eq0
 returns-else-sum-eq0 c =

@@ -1,20 +1,22 @@
--- `exactsums::rounded` meets its contract: head and rest round as the whole. Assumes nothing.
+-- `Size::rounded` meets its contract: head and rest round as the whole. Assumes nothing.
 use mathlib.Core.Path.{◌∙◌}
 use Prim.Native.Nat.{◌+◌, ◌*◌, ◌^◌, ◌<◌}
 use Rattle.exactsums.specs.Work.{size_of}
 use Rattle.exactsums.proofs.Heads.{Ready, ready, sticky_bit, ready_small, ready_normal, ready_rounds}
-use Rattle.exactsums.proofs.rounded.Goals.{After-closed}
-use Rattle.exactsums.proofs.rounded.Goals as goal
+use Rattle.exactsums.proofs.Size.rounded.Goals.{After-closed}
+use Rattle.exactsums.proofs.Size.rounded.Goals as goal
 
 pub closed-requires : goal.closed-requires
 closed-requires c = (c.head-t.ensures.small, sticky_bit _ c.rest-s.result c.rest-s.ensures)
 
 -- what is rounded
 is-ready : (c : After-closed)
-    → Ready c.closed.result c.head-t.result.i c.rest-s.result (size_of c.args.top c.args.digits.now c.args.below)
+    → let n = c.args.self.now in
+    Ready c.closed.result c.head-t.result.i c.rest-s.result (size_of n.top n.digits.now n.below)
 is-ready c =
-    ready c.args.top c.args.digits.now c.args.below c.head-t.result.h c.head-t.result.i c.closed.result c.rest-s.result
-    c.requires.0 c.head-t.ensures c.rest-s.ensures c.closed.ensures
+    let n = c.args.self.now in
+    ready n.top n.digits.now n.below c.head-t.result.h c.head-t.result.i c.closed.result c.rest-s.result
+    n.each c.head-t.ensures c.rest-s.ensures c.closed.ensures
 
 small : (c : After-closed) → 2 * c.closed.result + c.rest-s.result < 2 ^ 63
 small c = ready_small c.closed.result c.head-t.result.i c.rest-s.result _ (is-ready c) c.head-t.ensures.room
