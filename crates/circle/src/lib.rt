@@ -90,7 +90,7 @@ impl Angle {
             (λ angle. phase_is (Some angle.phase) × (cond angle.is_negative 1 0 ≡ b / 2147483648))
             (λ refusal. (refusal ≡ OutOfRange) × (Number x → phase_is None)) }
     {
-        if x != x {
+        if x.is_nan() {
             return Err(Refusal::OutOfRange);
         }
         let b = x.to_bits();

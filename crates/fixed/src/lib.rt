@@ -12,13 +12,12 @@ ghost use Rattle.units.specs.Units.{Positive};
 ghost use Rattle.fixed.specs.Parts.{Apart};
 ghost use Rattle.fixed.specs.Rounded.{Normal, nearest_bits, even_bits};
 
-// The bit pattern of every float, 0x7fc00000 of a NaN. That one comparison is all that is asked of the float unit, and
-// none of its modes disturbs it: rounding, subnormals that are read as zero. It stands here and elsewhere as it is, and
-// not as `is_nan`, whose body it is: so a reader sees each comparison of floats (docs/DECISIONS.md).
+// The bit pattern of every float, 0x7fc00000 of a NaN. `is_nan` compares x with itself. That one comparison is all that
+// is asked of the float unit, and none of its modes disturbs it: rounding, subnormals that are read as zero.
 pub fn bits_of(x: f32) -> u32
     ensures { result ≡ to_bits binary32 x }
 {
-    if x != x {
+    if x.is_nan() {
         return 0x7fc0_0000;
     }
     x.to_bits()

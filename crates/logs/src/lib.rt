@@ -195,7 +195,7 @@ impl Unrounded {
 fn in_range(x: f32) -> bool
     ensures { Tells (Accepts x) result }
 {
-    x == x && (0x0080_0000..0x7f80_0000).contains(&x.to_bits())
+    !x.is_nan() && (0x0080_0000..0x7f80_0000).contains(&x.to_bits())
 }
 
 // log2 x, the nearest float, as its bit pattern; refused as out of range where x is a NaN, below 2^-126 or an infinity.

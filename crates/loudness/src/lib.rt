@@ -31,7 +31,7 @@ fn size_bits(a: f32) -> u32
 fn envelope_bits(a: f32) -> Result<u32, Refusal>
     ensures { MatchResult result (λ p. Envelope a × (p ≡ size_bits a)) (λ e. (e ≡ OutOfRange) × ¬ Envelope a) }
 {
-    if a != a {
+    if a.is_nan() {
         return Err(Refusal::OutOfRange);
     }
     let p = size_bits(a);

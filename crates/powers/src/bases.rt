@@ -69,10 +69,7 @@ impl Scale for Two {
             let unit: u32 = 1 << (e - 118);
             return u64::from(m) * u64::from(unit);
         }
-        if 94 <= e {
-            return u64::from(m >> (118 - e));
-        }
-        0
+        u64::from(m.unbounded_shr(118 - e))
     }
 
     ghost ends = { (refl, refl) };
@@ -92,10 +89,7 @@ impl Scale for Natural {
     // 24 digits times the 40 of log2 e. Below 2^-33 nothing is left of them.
     fn steps(a: u32) -> u64 {
         let e = a / 8388608;
-        if e < 94 {
-            return 0;
-        }
-        (u64::from(a % 8388608 + 8388608) * 0xb8_aa3b_295c) >> (157 - e)
+        (u64::from(a % 8388608 + 8388608) * 0xb8_aa3b_295c).unbounded_shr(157 - e)
     }
 
     ghost ends = { (refl, refl) };
@@ -121,7 +115,7 @@ fn cut_off<S: Scale>(x: f32) -> u64
 pub(crate) fn in_range<S: Scale>(x: f32) -> bool
     ensures { Tells (Accepted S.base x) result }
 {
-    if x != x {
+    if x.is_nan() {
         return false;
     }
     let b = x.to_bits();

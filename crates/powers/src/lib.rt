@@ -136,7 +136,7 @@ fn nearest(x: f32, c: u64) -> u32
 fn cut(x: f32) -> Result<u64, Refusal>
     ensures { MatchResult result (λ c. Accepts x × (c ≡ cut_of x)) (λ e. ¬ Accepts x × (e ≡ OutOfRange)) }
 {
-    if x == x && (x.to_bits() % 2147483648).wrapping_sub(0x3b00_0000) <= 0x07f8_0000 {
+    if !x.is_nan() && (x.to_bits() % 2147483648).wrapping_sub(0x3b00_0000) <= 0x07f8_0000 {
         return Ok(whole_cut(x));
     }
     if in_range::<Two>(x) {

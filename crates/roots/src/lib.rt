@@ -92,7 +92,7 @@ fn root_bits(x: f32) -> u32
 pub fn sqrt(x: f32) -> Result<u32, Refusal>
     ensures { Gives float_bits (Sqrt x) result }
 {
-    if x != x {
+    if x.is_nan() {
         return Err(Refusal::OutOfRange);
     }
     let b = x.to_bits();
@@ -141,7 +141,7 @@ fn reciprocal_bits(x: f32) -> u32
 pub fn rsqrt(x: f32) -> Result<u32, Refusal>
     ensures { Gives float_bits (Rsqrt x) result }
 {
-    if x != x || !(1..INFINITY).contains(&x.to_bits()) {
+    if x.is_nan() || !(1..INFINITY).contains(&x.to_bits()) {
         return Err(Refusal::OutOfRange);
     }
     Ok(reciprocal_bits(x))

@@ -61,10 +61,7 @@ impl Scaling {
         if e <= p {
             return u64::from(m) << (p - e);
         }
-        if e - p < 64 {
-            return u64::from(m) >> (e - p);
-        }
-        0
+        u64::from(m).unbounded_shr(e - p)
     }
 
     // The size with the pattern b in units, cut off.

@@ -27,10 +27,7 @@ impl<'a> Pair<'a> {
         ensures of { IfOk result (λ p. (p.a.now ≡ a.now) × (p.b.now ≡ b.now)) }
         ensures refusal { IfErr result (λ refusal. (refusal ≡ BadLength) × (¬ Lengths a.now b.now)) }
     {
-        if a.len() != b.len() {
-            return Err(Refusal::BadLength);
-        }
-        if 65536 < a.len() {
+        if a.len() != b.len() || 65536 < a.len() {
             return Err(Refusal::BadLength);
         }
         Ok(Pair { a, b })
@@ -112,7 +109,7 @@ impl<'a> Pair<'a> {
     fn in_pairs(self) -> f32
         ensures { result ≡ dot_of self.entry.a.now self.entry.b.now }
     {
-        if self.a.len() == 0 {
+        if self.a.is_empty() {
             return 0.0;
         }
         let s = self.rest();
@@ -185,22 +182,18 @@ struct Tally {
 }
 
 impl Tally {
-    // Block i of 64 products: two sums of as many blocks become one of twice as many, as a carry does.
+    // Block i of 64 products: two sums of as many blocks become one of twice as many, as a carry does, through
+    // the lowest digits of i that are 1.
     fn carry(&mut self, pair: Pair<'_>, i: u32)
         requires { (i < 1024) × (64 * i + 64 ≤ length pair.a.now) × Held pair.a.now pair.b.now i self.old.held }
         ensures { Held pair.entry.a.now pair.entry.b.now (i + 1) self.new.held }
     {
         let mut s = pair.behind((64 * i) as usize).sixty_four();
-        let mut l = 0;
-        let mut c = i;
-        // A `while`: it ends at the first digit that is 0, and for the range `0..i.trailing_ones()` that digit would be
-        // looked for beforehand, which is no plainer.
-        while c % 2 == 1 {
+        let places = i.trailing_ones() as usize;
+        for l in 0..places {
             s = self.held[l] + s;
-            l += 1;
-            c = c / 2;
         }
-        self.held[l] = s;
+        self.held[places] = s;
     }
 
     // What it holds of all blocks, added to the rest, from the last piece to the first.
@@ -212,13 +205,13 @@ impl Tally {
         let mut s = rest;
         let mut l = 0;
         let mut c = (pair.a.len() / 64) as u32;
-        // Likewise: it ends behind the highest digit, where a `for` would go over all 11 places.
+        // A `while`: it ends behind the highest digit, where a `for` would go over all 11 places.
         while 0 < c {
             if c % 2 == 1 {
                 s = self.held[l] + s;
             }
             l += 1;
-            c = c / 2;
+            c /= 2;
         }
         s
     }

@@ -14,11 +14,7 @@ pub(crate) fn left(q: u32, k: u32) -> u64
         let u: u32 = 1048576 >> k;
         return u64::from(q) * u64::from(u) + u64::from(u) * 4294967296;
     }
-    if k < 64 {
-        (u64::from(q) + 4294967296) >> (k - 20)
-    } else {
-        0
-    }
+    (u64::from(q) + 4294967296).unbounded_shr(k - 20)
 }
 
 // What each power is multiplied by: r * 2^-c, up to a constant.
@@ -42,10 +38,8 @@ impl Factor {
         let c = self.c;
         if c < e {
             fixed::nearest_bits(n, e - c)
-        } else if c + 40 - e < 64 {
-            (n >> (c + 40 - e)) as u32
         } else {
-            0
+            n.unbounded_shr(c + 40 - e) as u32
         }
     }
 }

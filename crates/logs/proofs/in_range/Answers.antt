@@ -2,10 +2,10 @@
 use Rattle.std.proofs.Common.{◌≡◌, ℕ, ◌%◌, ◌<◌, ◌≤◌, Bool, true, false, not}
 use Rattle.std.proofs.Common.{◌&&◌, is_le, is_lt, nat_cmp, T, sym, refl, ap, ◌∙◌, subst, inl, true≢false, arith, rules}
 use Rattle.std.proofs.lemmas.Grind.{common_steps}
-use lib.Ieee.{Float, binary32, fits, ne, to_bits}
+use lib.Ieee.{Float, binary32, fits, to_bits}
 use Rattle.units.proofs.Patterns.{Shape, finite_below, beyond}
 use Rattle.units.proofs.Between.{sign_clear}
-use Rattle.fixed.proofs.Take.{no_number}
+use Rattle.fixed.proofs.Take.{nan_is_none}
 use Rattle.logs.specs.Log2.{Accepts}
 use Rattle.logs.proofs.Reduction.{normal_bits, bits_few}
 use Rattle.logs.proofs.in_range.Goals as goal
@@ -34,8 +34,8 @@ module _ (low high b : ℕ) (r : Bool) (test : r ≡ (is_le (nat_cmp low b) && i
   outside : r ≡ false → low ≤ b → b < high → ⊥
   outside e l h = grind (arith, common_steps)
 
-pub returns-then-x : goal.returns-then-x
-returns-then-x c =
+pub returns-then-not-is_nan : goal.returns-then-not-is_nan
+returns-then-not-is_nan c =
     let x = c.args.x in
     record {
       if_true = λ e.
@@ -46,9 +46,8 @@ returns-then-x c =
           out (omega (arith, normal_bits x a)) (omega (arith, bits_few x a));
     }
 
-pub returns-else-x : goal.returns-else-x
-unfolding ne
-returns-else-x c = record {
-  if_true = λ e. absurd (true≢false (sym e ∙ c.if-x.false));
-  if_false = λ e a. no_number c.args.x (ap not c.if-x.false) a.number;
+pub returns-else-not-is_nan : goal.returns-else-not-is_nan
+returns-else-not-is_nan c = record {
+  if_true = λ e. absurd (true≢false (sym e ∙ ap not c.if-not-is_nan.false));
+  if_false = λ e a. nan_is_none c.args.x (sym c.is_nan.ensures.value ∙ c.if-not-is_nan.false) a.number;
 }

@@ -1,15 +1,12 @@
 -- `loudness::envelope_bits` meets its contract: a value from 0 to 1 is told by its pattern. Assumes nothing.
-use Rattle.std.proofs.Common.{T, sym, refl, subst, le-leb}
+use Rattle.std.proofs.Common.{T, sym, refl, ◌∙◌, subst, le-leb}
 use borrow.Author.Tests.{lt-leb}
-use Rattle.fixed.proofs.Take.{equal_to_itself, no_number}
+use Rattle.fixed.proofs.Take.{nan_is_none}
 use Rattle.loudness.proofs.Sizes.{envelope}
 use Rattle.loudness.proofs.envelope_bits.Goals as goal
 
-pub returns-then-a : goal.returns-then-a
-returns-then-a c = (refl, λ v. no_number c.args.a c.if-a.true v.number)
-
-pub size_bits-p-requires : goal.size_bits-p-requires
-size_bits-p-requires c = equal_to_itself c.args.a c.if-a.false
+pub returns-then-is_nan : goal.returns-then-is_nan
+returns-then-is_nan c = (refl, λ v. nan_is_none c.args.a (sym c.is_nan.ensures.value ∙ c.if-is_nan.true) v.number)
 
 pub returns-then-p-le1065353216 : goal.returns-then-p-le1065353216
 returns-then-p-le1065353216 c =

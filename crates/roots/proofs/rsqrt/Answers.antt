@@ -1,22 +1,20 @@
 -- `roots::rsqrt` meets its promise: each return is an accepted float, or one that the tests show is not.
 -- Assumes nothing.
-use Rattle.std.proofs.Common.{rules, T, sym, subst}
+use Rattle.std.proofs.Common.{rules, T, sym, subst, ◌∙◌}
 use Rattle.units.specs.Units.{Positive}
-use Rattle.fixed.proofs.Take.{equal_to_itself, no_number}
+use Rattle.fixed.proofs.Take.{nan_is_none}
 use Rattle.roots.proofs.Range.{positive, positive_below, positive_above}
 use Rattle.roots.proofs.ReciprocalRoot.{success, declines}
-use Rattle.roots.proofs.rsqrt.Goals.{Else-not-contains, then-x-via-then-x, then-x-via-else-x+then-not-contains}
+use Rattle.roots.proofs.rsqrt.Goals.{Else-not-contains}
+use Rattle.roots.proofs.rsqrt.Goals.{then-is_nan-via-then-is_nan, then-is_nan-via-else-is_nan+then-not-contains}
 use Rattle.roots.proofs.rsqrt.Goals as goal
 
-pub float_to_bits-x : goal.float_to_bits-x
-float_to_bits-x c = equal_to_itself c.args.x c.if-x.false
-
-pub returns-then-x : goal.returns-then-x
-returns-then-x c =
+pub returns-then-is_nan : goal.returns-then-is_nan
+returns-then-is_nan c =
     let x = c.args.x in
-    declines x (λ p. elim c.then-x.branch [
-      | then-x-via-then-x w ↦ no_number x w.if-x.true p.number
-      | then-x-via-else-x+then-not-contains w ↦
+    declines x (λ p. elim c.then-is_nan.branch [
+      | then-is_nan-via-then-is_nan w ↦ nan_is_none x (sym c.is_nan.ensures.value ∙ w.if-is_nan.true) p.number
+      | then-is_nan-via-else-is_nan+then-not-contains w ↦
           let above = positive_above x p in
           let below = positive_below x p in
           search rules

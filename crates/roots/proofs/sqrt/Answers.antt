@@ -1,10 +1,10 @@
 -- `roots::sqrt` meets its promise: each return is an accepted float, or one that the tests show is not.
 -- Assumes nothing.
-use Rattle.std.proofs.Common.{rules, T, sym, subst, arith}
+use Rattle.std.proofs.Common.{rules, T, sym, subst, ◌∙◌, arith}
 use lib.Ieee.{binary32, fits}
 use lib.Ieee.Bits.{to_bits-lt}
 use Rattle.units.specs.Units.{Positive}
-use Rattle.fixed.proofs.Take.{equal_to_itself, no_number}
+use Rattle.fixed.proofs.Take.{nan_is_none}
 use Rattle.roots.proofs.Range.{zero_is, not-zero, positive, positive_below}
 use Rattle.roots.proofs.SquareRoot.{above_zero, success_zero, success, declines}
 use Rattle.roots.proofs.sqrt.Goals.{Start, Joined-not-contains, else-not-contains}
@@ -14,11 +14,9 @@ use Rattle.roots.proofs.sqrt.Goals as goal
 in-format : (c : Start) → T (fits binary32 c.args.x)
 in-format c = subst T (sym c.well_formed.0.1) tt
 
-pub returns-then-x : goal.returns-then-x
-returns-then-x c = declines c.args.x (λ a. no_number c.args.x c.if-x.true a.number)
-
-pub float_to_bits-b : goal.float_to_bits-b
-float_to_bits-b c = equal_to_itself c.args.x c.if-x.false
+pub returns-then-is_nan : goal.returns-then-is_nan
+returns-then-is_nan c =
+    declines c.args.x (λ a. nan_is_none c.args.x (sym c.is_nan.ensures.value ∙ c.if-is_nan.true) a.number)
 
 pub returns-in-0 : goal.returns-in-0
 returns-in-0 c =

@@ -1,18 +1,15 @@
 -- `bases::in_range` tells whether x is accepted by the base. Assumes nothing.
 use Rattle.std.proofs.Common.{T, sym, subst, true≢false, le_trans, le_of_eq, lt_of_le_of_lt, ◌∙◌}
-use Rattle.fixed.proofs.Take.{equal_to_itself, no_number}
+use Rattle.fixed.proofs.Take.{nan_is_none}
 use Rattle.powers.proofs.Either.{number_of, near_of, far_of}
 use Rattle.powers.proofs.bases.in_range.Goals.{Start}
 use Rattle.powers.proofs.bases.in_range.Goals as goal
 
-pub returns-then-x : goal.returns-then-x
-returns-then-x g c = record {
+pub returns-then-is_nan : goal.returns-then-is_nan
+returns-then-is_nan g c = record {
   if_true = λ e. absurd (true≢false (sym e));
-  if_false = λ e a. no_number c.args.x c.if-x.true (number_of g.S.Scale.base a);
+  if_false = λ e a. nan_is_none c.args.x (sym c.is_nan.ensures.value ∙ c.if-is_nan.true) (number_of g.S.Scale.base a);
 }
-
-pub float_to_bits-b : goal.float_to_bits-b
-float_to_bits-b g c = equal_to_itself c.args.x c.if-x.false
 
 pub returns-then-b-LEAST : goal.returns-then-b-LEAST
 returns-then-b-LEAST g c = record {

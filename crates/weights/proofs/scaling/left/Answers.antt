@@ -1,7 +1,7 @@
--- `scaling::left` meets its contract: a product, a shift, or nothing where that would be one of 64 places and more.
--- Assumes nothing.
-use Rattle.std.proofs.Common.{◌≡◌, ℕ, ◌+◌, ◌*◌, ◌/◌, ◌^◌, sym, ◌∙◌, arith}
-use native.Mathlib.Nat.{le_of_lt}
+-- `scaling::left` meets its contract: a product, or a shift of any number of places. Assumes nothing.
+use Rattle.std.proofs.Common.{◌≡◌, ℕ, ◌+◌, ◌*◌, ◌/◌, ◌-◌, ◌^◌, inl, inr, sym, ◌∙◌, arith}
+use borrow.Author.Tests.{lt-ltb, le-ltb}
+use Rattle.units.proofs.Naturals.{le-or-lt}
 use Rattle.weights.proofs.Aligning.{left_all, left_first, left_none}
 use Rattle.weights.proofs.scaling.left.Goals as goal
 
@@ -13,9 +13,11 @@ returns-then-k-le20 c =
     shared : (q u : ℕ) → q * u + u * 4294967296 ≡ (q + 2 ^ 32) * u
     shared q u = omega arith
 
-pub returns-then-k-lt64 : goal.returns-then-k-lt64
-returns-then-k-lt64 c =
-    rw c.from-then-k-lt64.ensures (left_first (c.args.q + 2 ^ 32) c.args.k (le_of_lt c.if-k-le20.false))
-
-pub returns-else-k-lt64 : goal.returns-else-k-lt64
-returns-else-k-lt64 c = sym (left_none (c.args.q + 2 ^ 32) c.args.k (omega arith) c.if-k-lt64.false)
+pub returns : goal.returns
+returns c =
+    let d = c.args.q + 2 ^ 32 in
+    let k = c.args.k in
+    c.unbounded_shr.ensures ∙ rw c.from-2.ensures (elim (le-or-lt 64 (k - 20)) [
+      | inl h ↦ rw (le-ltb (k - 20) 64 h) (sym (left_none d k (omega arith) (omega arith)))
+      | inr h ↦ rw (lt-ltb (k - 20) 64 h) (left_first d k (omega arith))
+    ])
