@@ -89,7 +89,11 @@ impl Scale for Natural {
     // 24 digits times the 40 of log2 e. Below 2^-33 nothing is left of them.
     fn steps(a: u32) -> u64 {
         let e = a / 8388608;
-        (u64::from(a % 8388608 + 8388608) * 0xb8_aa3b_295c).unbounded_shr(157 - e)
+        // A test, and no `unbounded_shr`: of a word of 64 digits that takes the chip 2 instructions more.
+        if e < 94 {
+            return 0;
+        }
+        (u64::from(a % 8388608 + 8388608) * 0xb8_aa3b_295c) >> (157 - e)
     }
 
     ghost ends = { (refl, refl) };

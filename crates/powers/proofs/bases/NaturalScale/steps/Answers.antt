@@ -1,15 +1,13 @@
 -- `NaturalScale::steps` meets its contract: the two cases of the shift. Assumes nothing.
-use Rattle.std.proofs.Common.{◌*◌, ◌-◌, ◌/◌, sym, ◌∙◌, inl, inr, arith, le-ltb, lt-ltb}
-use Rattle.units.proofs.Naturals.{le-or-lt}
+use Rattle.std.proofs.Common.{sym, arith}
 use Rattle.powers.specs.Bases.{steps_in}
 use Rattle.powers.proofs.NaturalTaken.{steps_none, steps_some}
 use Rattle.powers.proofs.bases.NaturalScale.steps.Goals as goal
 
+pub returns-then-e-lt94 : goal.returns-then-e-lt94
+unfolding steps_in
+returns-then-e-lt94 c = sym (steps_none c.args.a (omega arith))
+
 pub returns : goal.returns
 unfolding steps_in
-returns c =
-    let a = c.args.a in
-    c.unbounded_shr.ensures ∙ elim (le-or-lt (94 * 8388608) a) [
-      | inl l ↦ rw (c.from.ensures, lt-ltb (157 - a / 8388608) 64 (omega arith)) (sym (steps_some a l))
-      | inr l ↦ rw (le-ltb (157 - a / 8388608) 64 (omega arith)) (sym (steps_none a l))
-    ]
+returns c = rw c.from.ensures (sym (steps_some c.args.a (omega arith)))
