@@ -61,7 +61,7 @@ fn joined(word: u32, next: u32, s: u32) -> u32
     requires { s < 32 }
     ensures { result ≡ joined_of word next s }
 {
-    (word << s).wrapping_add(next / 2 >> (31 - s))
+    (word << s) + (next / 2 >> (31 - s))
 }
 
 // The 64 digits up to the i-th after the point.

@@ -36,6 +36,7 @@ fn code(answer: Result<(), Refusal>) -> u32
 }
 
 // The same, and what is answered goes to its place; where it is a refusal the place stays as it is.
+// By `code(answer.map(|bits| *place = bits))` it was tried: that the place is written was left open.
 fn write(answer: Result<u32, Refusal>, place: &mut u32) -> u32
     ensures code { result ≡ code_in answer }
     ensures place { MatchResult answer (λ bits. place.new ≡ bits) (λ _. place.new ≡ place.old) }

@@ -20,7 +20,7 @@ fn sized(b: u32) -> bool
     ensures { Tells (Sized b) result }
 {
     let size = b % 2147483648;
-    0x2b80_0000 <= size && size <= 0x5380_0000
+    (0x2b80_0000..=0x5380_0000).contains(&size)
 }
 
 // Are both?
@@ -207,12 +207,12 @@ impl<'a> Size<'a> {
         requires { i ≤ 41 }
         ensures { Sticky (number self.now.digits.now 0 i) result }
     {
-        // A sum and one test, and no `any`: on the chip that finds no references, as `gather` says.
+        // A sum by places of 32 bits and one test, and no `any`: on the chip that finds no references, as `gather` says.
         let mut sum = 0;
         for j in 0..i {
             sum += self.digits[j as usize];
         }
-        if sum == 0 { 0 } else { 1 }
+        u64::from(sum != 0)
     }
 
     // Its head; below zero, less one in its last place.
@@ -221,7 +221,7 @@ impl<'a> Size<'a> {
     {
         let mut h = self.top;
         let mut i: u32 = 41;
-        // A `while`: it goes down and ends early, and `rev` would ask for an `Option` of a reference.
+        // A `while`: it goes down, ends early, and where it ended is wanted, which a `for` would keep in a second place.
         while 0 < i && h < 144115188075855872 {
             i -= 1;
             h = 16 * h + digit(self.digits[i as usize], self.below);
@@ -246,10 +246,7 @@ impl<'a> Size<'a> {
 pub fn dot_nearest(a: &[f32], b: &[f32]) -> Result<u32, Refusal>
     ensures { Gives float_bits (NearestDot a.now b.now) result }
 {
-    if a.len() != b.len() {
-        return Err(Refusal::BadLength);
-    }
-    if 4096 < a.len() {
+    if a.len() != b.len() || 4096 < a.len() {
         return Err(Refusal::BadLength);
     }
     let mut rows = Rows {

@@ -26,6 +26,11 @@ words_of bands i = get_or bands i []
 pub record AllBands (top : ℕ) (bands : List (List ℕ)) : Type 0 where
   pub each : (i : ℕ) → i < length bands → Band top (words_of bands i) 0
 
+-- six words that make a band, each of 32 bits: of those behind a struct's field Rattle does not say it
+pub record Accepted (top : ℕ) (words : List ℕ) : Type 0 where
+  pub band : Band top words 0
+  pub fits : (j : ℕ) → get_or words j 0 < 4294967296
+
 -- the current of the band i by the moduli ys
 unfoldable pub current_at : List ℕ → List ℕ → ℕ → ℕ
 current_at ys bs i = step_of (quietest bs i) (loudest bs i) (threshold bs i) (comfort bs i) (envelope_of (sum_from (λ k. get_or ys k 0) (lo bs i) (hi bs i)))

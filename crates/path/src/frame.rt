@@ -7,12 +7,11 @@ ghost use Rattle.spectrum.specs.Floats.{digits_in, place_in};
 ghost use Rattle.path.specs.Steps.{product_word, Products};
 ghost use Rattle.path.specs.Ready.{Small, AllSmall};
 
+use crate::bands::ONE;
 use spectrum::floats;
 use spectrum::words::UNIT;
 
-// The pattern of 1, the sign of a pattern, and the first digit of a normal number.
-const ONE: u32 = 0x3f80_0000;
-
+// The sign of a pattern, and the first digit of a normal number.
 const SIGN: u32 = 0x8000_0000;
 
 const FIRST: u32 = 0x0080_0000;

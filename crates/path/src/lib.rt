@@ -12,8 +12,9 @@ ghost use Rattle.std.specs.Prelude.{◌≡◌, List, ℕ, length};
 ghost use Rattle.units.specs.Answers.{Ends};
 ghost use Rattle.units.specs.Refusals.{code_in};
 ghost use Rattle.path.specs.Path.{Currents, as_they_are};
-ghost use Rattle.path.specs.Ready.{AllBands, Heard};
+ghost use Rattle.path.specs.Ready.{Heard};
 
+use bands::Bands;
 use frame::Frame;
 use sizes::Sizes;
 use units::Refusal;
@@ -39,26 +40,26 @@ pub fn currents(
     {
         return Err(Refusal::BadLength);
     }
-    bands::accept(top, bands)?;
+    let bands = Bands::accept(top, bands)?;
     if !Frame::accepts(x, w) {
         return Err(Refusal::OutOfRange);
     }
-    hear(top, &Frame { x, w }, bands, out);
+    hear(&Frame { x, w }, &bands, out);
     Ok(())
 }
 
 // The currents of what is accepted.
-fn hear(top: u32, frame: &Frame, bands: &[[u32; 6]], out: &mut [u32])
-    requires { AllBands top bands.now × (length bands.now ≡ length out.old) }
-    ensures { Heard frame.now.x.now frame.now.w.now bands.now (length out.old) out.new }
+fn hear(frame: &Frame, bands: &Bands, out: &mut [u32])
+    requires { length bands.now.words.now ≡ length out.old }
+    ensures { Heard frame.now.x.now frame.now.w.now bands.now.words.now (length out.old) out.new }
 {
     // Two lists of words, written before they are read. They are filled with a number that is known at run time, since
     // zeros would be a call of memset, which is not in the archive.
-    let any = u64::from(top);
+    let any = u64::from(bands.top);
     let mut y = [any; 128];
     frame.products(&mut y);
     let mut r = [any; 128];
     spectrum::words::transform(&y, &mut r);
     moduli::moduli(&r, &mut y);
-    bands::steps(top, bands, Sizes { words: &y }, out);
+    bands.steps(Sizes { words: &y }, out);
 }

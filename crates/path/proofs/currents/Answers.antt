@@ -27,20 +27,20 @@ chunks c = c.as_chunks.ensures.front ∙ ap (λ k. first_chunks 6 k c.args.bands
 bands : (c : Else-not-is_empty) → AllBands c.args.top c.as_chunks.result.0.now → Bands c.args.top c.args.bands.now (length c.args.out.now)
 bands c h = bands_among c.args.bands.now (length c.args.out.now) c.args.top (subst (AllBands c.args.top) (chunks c) h)
 
-pub returns-in_err-accept : goal.returns-in_err-accept
-returns-in_err-accept c =
-    let at = (goal.at.returns-in_err-accept c).Else-not-is_empty in
+pub returns-in_err-bands : goal.returns-in_err-bands
+returns-in_err-bands c =
+    let at = (goal.at.returns-in_err-bands c).Else-not-is_empty in
     let bs = c.args.bands.now in
     let n = length c.args.out.now in
     let refused : c.from_residual.result ≡ Err BadChannel = search rules in
-    rw refused (refused_band c.args.top c.args.x.now c.args.w.now bs n (lengths at) (λ h. c.in_err-accept.ensures.1 (subst (AllBands c.args.top) (sym (chunks at)) (bands_alone bs n c.args.top h))))
+    rw refused (refused_band c.args.top c.args.x.now c.args.w.now bs n (lengths at) (λ h. c.in_err-bands.ensures.1 (subst (AllBands c.args.top) (sym (chunks at)) (bands_alone bs n c.args.top h))))
 
 pub returns-then-not-accepts : goal.returns-then-not-accepts
 returns-then-not-accepts c =
     let at = (goal.at.returns-then-not-accepts c).Else-not-is_empty in
     let xs = c.args.x.now in
     let ws = c.args.w.now in
-    refused_sample c.args.top xs ws c.args.bands.now (length c.args.out.now) (lengths at) (bands at c.in_ok-accept.ensures) (λ h. c.if-not-accepts.ensures.if_false refl (all_small xs ws h))
+    refused_sample c.args.top xs ws c.args.bands.now (length c.args.out.now) (lengths at) (bands at c.in_ok-bands.ensures.1) (λ h. c.if-not-accepts.ensures.if_false refl (all_small xs ws h))
 
 pub returns : goal.returns
 returns c =
@@ -50,6 +50,6 @@ returns c =
     let bs = c.args.bands.now in
     let n = length c.args.out.now in
     let h = c.hear.ensures in
-    let accepts : Accepts c.args.top xs ws bs n = record { lengths = lengths at; bands = bands at c.in_ok-accept.ensures; samples = samples_of xs ws (c.if-not-accepts.ensures.if_true refl) } in
+    let accepts : Accepts c.args.top xs ws bs n = record { lengths = lengths at; bands = bands at c.in_ok-bands.ensures.1; samples = samples_of xs ws (c.if-not-accepts.ensures.if_true refl) } in
     promised c.args.top xs ws bs n accepts h.ys h.products h.r h.count h.fills h.gs h.moduli c.hear.new.out
-    (stepped bs n h.gs c.hear.new.out (subst (λ cs. SteppedBy h.gs cs n c.hear.new.out) (chunks at) h.stepped))
+    (stepped bs n h.gs c.hear.new.out (subst (λ cs. SteppedBy h.gs cs n c.hear.new.out) (c.in_ok-bands.ensures.0 ∙ chunks at) h.stepped))

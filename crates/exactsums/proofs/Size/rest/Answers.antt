@@ -1,7 +1,7 @@
 -- `Size::rest` meets its contract. The loop's invariant: the sum of the digits passed is 0 where their number is.
 -- Assumes nothing.
-use mathlib.Core.Path.{◌≡◌, refl}
-use mathlib.Core.Logic.{inl, inr}
+use mathlib.Core.Path.{refl}
+use mathlib.Core.Logic.{inl}
 use Prim.Native.Nat.{◌^◌}
 use native.Mathlib.Omega.{arith}
 use lib.ListN.{get_or}
@@ -22,18 +22,3 @@ loop-j-preserved c =
       rw (number_next₀ ds j)
           (sticky_next (number ds 0 j) (get_or ds j 0) (16 ^ j) c.loop-j.sum (sixteen_pos j) c.loop-j.invariant.2),
     )
-
-pub returns-then-sum-eq0 : goal.returns-then-sum-eq0
-returns-then-sum-eq0 c =
-    let l = c.loop-j in
-    let e : l.j ≡ c.args.i = omega arith in
-    elim l.invariant.2 [
-      | inl (a, b) ↦ inl (rw e at a, refl)
-      | inr (a, b) ↦ absurd (let z = c.if-sum-eq0.true in omega arith)
-    ]
-
-pub returns-else-sum-eq0 : goal.returns-else-sum-eq0
-returns-else-sum-eq0 c =
-    let l = c.loop-j in
-    let e : l.j ≡ c.args.i = omega arith in
-    elim l.invariant.2 [ inl (a, b) ↦ absurd (c.if-sum-eq0.false b) | inr (a, b) ↦ inr (rw e at a, refl) ]
