@@ -10,8 +10,8 @@
 # Without LLVM's second scheduler (misched) the roots take 4 to 8 instructions fewer, and no function is slower by more than 2. Without its hoisting of
 # constants, which loads a mask of 23 bits again and again where one instruction puts bits in, softmax takes 8 fewer, and no function is slower by more than 1.
 # A guess that two functions share is no call with a higher limit for inlining: the root takes 4 fewer, the path from microphone to electrode 300, for 120 bytes.
-# Tables that a function uses together lie together, up to 239 bytes: two addresses for the logarithm's five. (With 320 bytes it is one, 3 instructions less,
-# and the tables of the transform are merged too, which takes 4 % longer by it.)
+# Tables that a function uses together lie together, up to 239 bytes: one address for all of them. (With 320 bytes the tables of the transform were merged
+# too, which took 4 % longer by it.)
 FOR = chip
 OPTIMIZE = -O3 -mllvm -inline-threshold=400
 TARGET_chip = --target=thumbv7em-none-eabihf -mcpu=cortex-m4 -mfloat-abi=hard -Xclang -target-feature -Xclang -use-misched \

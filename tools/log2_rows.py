@@ -44,8 +44,7 @@ def lifted(row):
 rows = [lifted(i) for i in range(ROWS)]
 for i, c in enumerate(rows):
     excess = max(polynomial(c, u) / quotient(i, u) - 1 for u in GRID)
-    arm = i if i < ROWS - 1 else "_"
-    print(f"        {arm} => Row(" + ", ".join(f"0x{x:08x}" for x in c) + f"), // above by at most 2^{float(log(excess, 2)):.2f}")
+    print("    [" + ", ".join(f"0x{x:08x}" for x in c) + f"], // above by at most 2^{float(log(excess, 2)):.2f}")
 for i, c in enumerate(rows):
     print("    " + ("" if i == 0 else "∷ ") + "(" + " ∷ ".join(f"0x{x:08x}" for x in c) + " ∷ [])")
 print("    ∷ []")

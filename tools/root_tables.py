@@ -47,16 +47,15 @@ def piece(g, sign):
 
 
 def show(name, f, octaves, sign):
-    """The rows as the arms of a match, which compiles to a table in read-only memory."""
-    print(f"fn {name}(i: u32) -> Coefficients {{\n    match i {{")
+    """The rows as a table, which lies in read-only memory."""
+    print(f"static {name}: Rows = [")
     for i in range(32):
         end = (17 + i % 16) * WIDTH
         row = piece(lambda t: 256 * f(octaves[i // 16], end - WIDTH * t), sign)
-        arm = i if i < 31 else "_"
-        print(f"        {arm} => of(" + ", ".join(f"0x{v:08x}" for v in row) + "),")
-    print("    }\n}")
+        print("    [" + ", ".join(f"0x{v >> 16:04x}_{v & 0xffff:04x}" for v in row) + "],")
+    print("];")
 
 
 # The root of m * 2 ^ (23 + odd), which falls with the distance, and that of 2 ^ (70 + odd) / m, which grows.
-show("root_row", lambda odd, m: math.sqrt(m * 2.0 ** (23 + odd)), (0, 1), -1)
-show("reciprocal_row", lambda odd, m: 2.0 ** 35 * math.sqrt(2.0 ** odd / m), (1, 0), 1)
+show("ROOTS", lambda odd, m: math.sqrt(m * 2.0 ** (23 + odd)), (0, 1), -1)
+show("RECIPROCALS", lambda odd, m: 2.0 ** 35 * math.sqrt(2.0 ** odd / m), (1, 0), 1)

@@ -1,9 +1,13 @@
 -- The four promises: of an accepted x code 0 and the value, of any other code 1; and how the calls end. Assumes nothing.
-use Rattle.std.proofs.Common.{◌≡◌, ℕ, ◌/◌, ◌%◌, ◌^◌, ◌<◌, ◌≤◌, sym, refl, ◌∙◌, subst, arith, lit<, lit≤}
+use Rattle.std.specs.Prelude.{Result, Ok, Err, MatchResult, IsOkAnd}
+use Rattle.std.proofs.Common.{arith, ◌≡◌, ℕ, ◌/◌, ◌%◌, ◌^◌, ◌<◌, ◌≤◌, sym, refl, ◌∙◌, subst, lit<, lit≤}
 use lib.Ieee.{Float, binary32, to_bits}
 use Rattle.units.specs.Units.{mag, Number}
+use Rattle.units.specs.declared.refusal.Refusal.{Refusal}
+use Rattle.units.specs.declared.refusal.Refusal.TheVariants.{OutOfRange}
 use Rattle.units.specs.Answers.{Ends, float_bits}
-use Rattle.units.proofs.Answers.{given, declined, written, untouched}
+use Rattle.units.specs.Refusals.{Gives}
+use Rattle.units.proofs.Answers.{given, declined, untouched, err}
 use Rattle.exact.specs.Circle.{Signed, bound, Sine, Cosine, QuarterTurn}
 use Rattle.exact.proofs.Limits.{near_wider}
 use Rattle.circle.specs.Phase.{half_turns, radians}
@@ -23,13 +27,24 @@ module _ {r : Float} (t : ℕ) (e : r ≡ wave (t % 2 ^ 64)) where
   inside_of : mag r ≤ 2 ^ 149
   inside_of = subst (λ (r : Float). mag r ≤ 2 ^ 149) (sym e) (wave_inside _ (less t))
 
--- the pattern that is written is the value's
-ended : {Promise : ℕ → Float → Type 0} {before after : ℕ} (t : ℕ) → Promise 0 (wave (t % 2 ^ 64)) → after ≡ wave_bits (t % 2 ^ 64) → Ends float_bits Promise 0 before after
-ended t p e = written (wave (t % 2 ^ 64)) p (e ∙ sym (wave_pattern (t % 2 ^ 64) (less t)))
+-- the pattern is the value's
+module _ {Promise : ℕ → Float → Type 0} where
+  ended : {bits : ℕ} (t : ℕ) → Promise 0 (wave (t % 2 ^ 64)) → bits ≡ wave_bits (t % 2 ^ 64) → Gives float_bits Promise (Ok bits)
+  ended t p e = record { result = wave (t % 2 ^ 64); promise = p; given = e ∙ sym (wave_pattern (t % 2 ^ 64) (less t)) }
 
--- nothing is written
-kept : {Promise : ℕ → Float → Type 0} {before : ℕ} (r : Float) → Promise 1 r → Ends float_bits Promise 1 before before
-kept r p = untouched 1 r (λ z. omega arith) p
+  -- nothing is written
+  kept : {before : ℕ} (r : Float) → Promise 1 r → Ends float_bits Promise 1 before before
+  kept r p = untouched 1 r (λ z. omega arith) p
+
+-- an answer that is made of another one: its value of the value, and the same refusal
+pub answered : {A : Type 0} {Promise : ℕ → Float → Type 0} {Value : A → Type 0} {Post : A → ℕ → Type 0} {Declined : Type 0}
+    → (from : Result A Refusal) (answer : Result ℕ Refusal)
+    → MatchResult from Value (λ e. (e ≡ OutOfRange) × Declined) → MatchResult from (λ a. IsOkAnd answer (Post a)) (λ e. answer ≡ Err e)
+    → ((a : A) (bits : ℕ) → Value a → Post a bits → Gives float_bits Promise (Ok bits))
+    → (Declined → Ends float_bits Promise 1 0 0) → Gives float_bits Promise answer
+answered (Ok a) (Ok bits) v p gives refuses = gives a bits v p
+answered (Ok a) (Err e) v p gives refuses = absurd p
+answered (Err e) answer (is, d) p gives refuses = rw (p, is) (err OutOfRange (refuses d))
 
 -- ---- pi x
 module _ (x : Float) where
@@ -47,7 +62,7 @@ module _ (x : Float) where
   sin_pi_refused : ¬ AcceptsPi x → SinPi x 1 (sin_pi_of x)
   sin_pi_refused n = record { answers = declined sin_pi_of x (sin_pi_of x) n; near = λ h. absurd (n h); whole = λ h. absurd (n h); inside = λ h. absurd (n h) }
 
-  pub sin_pi_success : {before after : ℕ} → AcceptsPi x → after ≡ wave_bits (half_on half (to_bits binary32 x / 2147483648)) → Ends float_bits (SinPi x) 0 before after
+  pub sin_pi_success : {bits : ℕ} → AcceptsPi x → bits ≡ wave_bits (half_on half (to_bits binary32 x / 2147483648)) → Gives float_bits (SinPi x) (Ok bits)
   unfolding sin_pi_of half_on
   sin_pi_success a e = ended _ (sin_pi_promised a) e
 
@@ -65,7 +80,7 @@ module _ (x : Float) where
   cos_pi_refused : ¬ AcceptsPi x → CosPi x 1 (cos_pi_of x)
   cos_pi_refused n = record { answers = declined cos_pi_of x (cos_pi_of x) n; near = λ h. absurd (n h); whole = λ h. absurd (n h); inside = λ h. absurd (n h) }
 
-  pub cos_pi_success : {before after : ℕ} → AcceptsPi x → after ≡ wave_bits (quarter_on half) → Ends float_bits (CosPi x) 0 before after
+  pub cos_pi_success : {bits : ℕ} → AcceptsPi x → bits ≡ wave_bits (quarter_on half) → Gives float_bits (CosPi x) (Ok bits)
   unfolding cos_pi_of quarter_on
   cos_pi_success a e = ended _ (cos_pi_promised a) e
 
@@ -87,7 +102,7 @@ module _ (x : Float) where
   sin_refused : ¬ Accepts x → Sin x 1 (sin_of x)
   sin_refused n = record { answers = declined sin_of x (sin_of x) n; near = λ h. absurd (n h); inside = λ h. absurd (n h) }
 
-  pub sin_success : {before after : ℕ} → Accepts x → after ≡ wave_bits (half_on turns (to_bits binary32 x / 2147483648)) → Ends float_bits (Sin x) 0 before after
+  pub sin_success : {bits : ℕ} → Accepts x → bits ≡ wave_bits (half_on turns (to_bits binary32 x / 2147483648)) → Gives float_bits (Sin x) (Ok bits)
   unfolding sin_of half_on
   sin_success a e = ended _ (sin_promised a) e
 
@@ -104,7 +119,7 @@ module _ (x : Float) where
   cos_refused : ¬ Accepts x → Cos x 1 (cos_of x)
   cos_refused n = record { answers = declined cos_of x (cos_of x) n; near = λ h. absurd (n h); inside = λ h. absurd (n h) }
 
-  pub cos_success : {before after : ℕ} → Accepts x → after ≡ wave_bits (quarter_on turns) → Ends float_bits (Cos x) 0 before after
+  pub cos_success : {bits : ℕ} → Accepts x → bits ≡ wave_bits (quarter_on turns) → Gives float_bits (Cos x) (Ok bits)
   unfolding cos_of quarter_on
   cos_success a e = ended _ (cos_promised a) e
 

@@ -33,3 +33,6 @@ module _ (m e : ℕ) (few : m < 2 ^ 24) where
       left : m * 2 ^ e / 2 ^ 87 ≡ m * 2 ^ (e - 87)
       left =
           ap (λ (n : ℕ). m * n / 2 ^ 87) (power (e - 87) 87 e (omega arith)) ∙ ap (λ (n : ℕ). n / 2 ^ 87) (sym (mul_assoc m (2 ^ (e - 87)) (2 ^ 87))) ∙ mul-div_cancel (m * 2 ^ (e - 87)) (pow_pos 87)
+
+-- each place that a phase of pi x has
+pub ruleset shifts = (shifted_out, shifted_right, shifted_left)

@@ -1,299 +1,203 @@
-// earmath on the command line: a function's name and arguments as bit patterns in hexadecimal; the result's pattern, or the refusal by name.
-// A line in, a line out: the words of the command line are a line; without words each line of the standard input is one; with a function's
-// name alone each line of the standard input holds arguments for it.
+// earmath on the command line: a function's name and arguments as bit patterns in hexadecimal; the result's pattern, or
+// the refusal by name. A line in, a line out: the words of the command line are a line; without words each line of the
+// standard input is one; with a function's name alone each line of the standard input holds arguments for it.
 
 #![tactic(auto)]
 
+mod complaint;
 mod functions;
 mod words;
 
-ghost use Rattle.std.specs.Prelude.{◌≤◌, length};
+ghost use Rattle.std.specs.Prelude.{◌≡◌, ◌<◌, ◌≤◌, None, Ok, IfOk, IfSome, length, map, take, vec_len};
+ghost use Rattle.ear.specs.Words.{float_of, one_line};
 
+use complaint::Complaint;
+use functions::Function;
+use std::alloc::{AllocError, Global};
 use std::env::FillError;
-use std::io::{IsTerminal, Read};
+use std::io::{BufRead, IsTerminal, Read};
 use std::rt::Env;
-use words::say;
 
+// How many patterns a line may have.
 const MOST: usize = 2048;
 
-fn usage(rt: &impl Print) {
-    say(
-        rt,
-        b"earmath FUNCTION PATTERN...   bit patterns in hexadecimal, as 40490fdb; \
-          a result's pattern for each, or OUT_OF_RANGE\n\
-          earmath FUNCTION              the same for each line of the standard input\n\
-          earmath                       each line of the standard input: FUNCTION PATTERN...\n\
-          sqrt rsqrt exp2 exp log2 sinpi cospi sin cos   of each pattern\n\
-          dot dot_nearest               the first half of the patterns times the second\n\
-          softmax2 softmax              the weight of each pattern among all of them, base two or e\n\
-          loudness B M T C A...         the step of each A; T, C and steps in hexadecimal too\n",
-    );
-}
+// Which length of a line is too long.
+const TOO_LONG: usize = 65536;
 
-// A word that is neither a function nor a pattern, on a line of its own.
-fn complain(rt: &impl Print, word: &[u8], what: &[u8]) {
-    say(rt, b"earmath: ");
-    say(rt, word);
-    say(rt, what);
-}
+const USAGE: &str = "\
+earmath FUNCTION PATTERN...   bit patterns in hexadecimal, as 40490fdb; a result's pattern for each, or OUT_OF_RANGE
+earmath FUNCTION              the same for each line of the standard input
+earmath                       each line of the standard input: FUNCTION PATTERN...
+sqrt rsqrt exp2 exp log2 sinpi cospi sin cos   of each pattern
+dot dot_nearest               the first half of the patterns times the second
+softmax2 softmax              the weight of each pattern among all of them, base two or e
+loudness B M T C A...         the step of each A; T, C and steps in hexadecimal too";
 
-// A word's pattern; a word that is none is complained of.
-fn pattern(rt: &impl Print, word: &[u8]) -> u64 {
-    let b = words::bits(word);
-    if words::NOT_A_PATTERN <= b {
-        complain(
-            rt,
-            word,
-            b" is no bit pattern of 1 to 8 hexadecimal digits\n",
-        );
-    }
-    b
-}
-
-// A word's pattern, as the float at n: no if it is none, or there is no room.
-fn take(rt: &impl Print, word: &[u8], n: usize, floats: &mut [f32]) -> bool {
-    let b = pattern(rt, word);
-    if words::NOT_A_PATTERN <= b {
-        return false;
-    }
-    if floats.len() <= n {
-        complain(rt, word, b" is one pattern too many\n");
-        return false;
-    }
-    floats[n] = patterns::float(b as u32);
-    true
-}
-
-// What a line's words from `from` on say, as floats: how many, or more than there is room for if one was not taken.
-fn collect(rt: &impl Print, line: &[u8], from: usize, floats: &mut [f32]) -> usize
-    requires { from ≤ length line.now }
+// What words say, as floats.
+fn floats<'a>(alloc: Global, words: &[&'a [u8]]) -> Result<Vec<f32>, Complaint<'a>>
+    ensures each { IfOk result (λ floats. floats.items ≡ map (λ word. float_of word.now) words.now) }
+    ensures most { IfOk result (λ floats. vec_len floats ≤ 2048) }
 {
-    let mut n = 0;
-    let mut a = words::find(line, from, false);
-    while a < line.len() {
-        let e = words::find(line, a + 1, true);
-        if !take(rt, &line[a..e], n, floats) {
-            return floats.len() + 1;
+    let mut floats = Vec::new(alloc);
+    for word in words {
+        let bits = words::pattern(word).ok_or(Complaint::NoPattern(word))?;
+        if floats.len() == MOST {
+            return Err(Complaint::OneTooMany(word));
         }
-        n += 1;
-        a = words::find(line, e, false);
+        floats.push(patterns::float(bits))?;
     }
-    n
+    Ok(floats)
 }
 
-// The answer to the words of a line from `from` on, as arguments of a function.
-fn arguments(rt: &impl Print, function: u32, line: &[u8], from: usize)
-    requires { from ≤ length line.now }
+// The answer to words: arguments of a function that is known, or else a function's name and arguments. There is none
+// to no words, nor to such a request that starts with #.
+fn answer<'a>(
+    alloc: Global,
+    known: Option<Function>,
+    words: &[&'a [u8]],
+) -> Result<Option<String>, Complaint<'a>>
+    ensures { length words.now ≡ 0 → result ≡ Ok None }
 {
-    let mut floats = [0.0; 2048];
-    let n = collect(rt, line, from, &mut floats);
-    if n <= MOST {
-        functions::apply(rt, function, &floats[0..n]);
-    }
+    let Some((first, others)) = words.split_first() else {
+        return Ok(None);
+    };
+    let (function, arguments) = match known {
+        Some(function) => (function, words),
+        None if first.starts_with(b"#") => return Ok(None),
+        None => (Function::try_from(*first)?, others),
+    };
+    let floats = floats(alloc, arguments)?;
+    Ok(Some(functions::apply(alloc, function, &floats)?))
 }
 
-fn unknown(rt: &impl Print, word: &[u8]) {
-    complain(rt, word, b" is no function: ");
-    functions::say_names(rt);
-    say(rt, b"\n");
+// Prints the answer to a line. What cannot be written is lost, as it is on a terminal that was closed.
+fn answer_line(rt: &(impl Print + AllocGlobal), known: Option<Function>, line: &[u8]) {
+    let answered = match words::words(rt.alloc(), line) {
+        Ok(words) => answer(rt.alloc(), known, &words),
+        Err(e) => Err(Complaint::from(e)),
+    };
+    let _ = match answered {
+        Ok(Some(text)) => rt.println(text),
+        Ok(None) => Ok(()),
+        Err(complaint) => complaint.print(rt),
+    };
 }
 
-// The function that a word names; a word that names none is complained of.
-fn known(rt: &impl Print, word: &[u8]) -> u32 {
-    let function = functions::named(word);
-    if function == functions::UNKNOWN {
-        unknown(rt, word);
-    }
-    function
+// What ended a line of the input.
+#[derive(Clone, Copy, Debug, PartialEq, Eq)]
+enum End {
+    Newline,
+    Input,
+    Length,
 }
 
-// The answer to a line that starts with a function's name; none to an empty one, or to one that starts with #.
-fn request(rt: &impl Print, line: &[u8]) {
-    let a = words::find(line, 0, false);
-    let e = words::find(line, a, true);
-    if a == line.len() || line[a] == b'#' {
-        return;
-    }
-    let function = known(rt, &line[a..e]);
-    if function != functions::UNKNOWN {
-        arguments(rt, function, line, e);
-    }
-}
-
-// A line of the standard input: how many bytes of the buffer it fills, whether it filled all of it, and whether no more is to be read.
-#[derive(Drop)]
-struct Got {
-    length: usize,
-    cut: bool,
-    last: bool,
-}
-
-fn read_line(rt: &impl Input, line: &mut [u8]) -> Got
-    ensures { result.length ≤ length line.new }
+// Puts the next line of the input into `line`. What cannot be read counts as the end of the input.
+fn read_line(input: &mut impl BufRead, line: &mut Vec<u8>) -> End
+    ensures input { result ≡ End.Input → vec_len line.new < 65536 }
+    ensures too_long { result ≡ End.Length → 65536 ≤ vec_len line.new }
 {
+    line.clear();
+    // `as`, since no From makes a u64 of a usize
+    let _ = input.by_ref().take(TOO_LONG as u64).read_until(b'\n', line);
+    if line.pop_if(|byte| *byte == b'\n').is_some() {
+        End::Newline
+    } else if line.len() < TOO_LONG {
+        End::Input
+    } else {
+        End::Length
+    }
+}
+
+// The answers to the lines of the standard input.
+fn answer_lines(
+    rt: &(impl Print + Input + AllocGlobal),
+    known: Option<Function>,
+) -> Result<(), AllocError> {
     let mut input = rt.reader();
-    let mut n = 0;
-    while n < line.len() {
-        let mut one = [0u8; 1];
-        if input.read(&mut one).unwrap_or(0) == 0 {
-            return Got {
-                length: n,
-                cut: false,
-                last: true,
-            };
+    let mut line = Vec::with_capacity(rt.alloc(), TOO_LONG)?;
+    // a loop that reads is to end, so it counts: no input has as many lines
+    for _ in 0..u64::MAX {
+        match read_line(&mut input, &mut line) {
+            End::Newline => answer_line(rt, known, &line),
+            End::Input => {
+                answer_line(rt, known, &line);
+                break;
+            }
+            End::Length => {
+                let _ = Complaint::LongLine.print(rt);
+                break;
+            }
         }
-        if one[0] == 10 {
-            return Got {
-                length: n,
-                cut: false,
-                last: false,
-            };
-        }
-        line[n] = one[0];
-        n += 1;
     }
-    Got {
-        length: n,
-        cut: true,
-        last: true,
-    }
+    Ok(())
 }
 
-// The answer to a line: arguments of a function, or a request.
-fn answer(rt: &impl Print, function: u32, line: &[u8]) {
-    if function == functions::UNKNOWN {
-        request(rt, line);
-    } else if words::find(line, 0, false) < line.len() {
-        arguments(rt, function, line, 0);
-    }
-}
-
-// The answer to a line of the standard input, and whether it was the last.
-fn answer_line(rt: &(impl Print + Input), function: u32) -> bool {
-    let mut line = [0u8; 65536];
-    let got = read_line(rt, &mut line);
-    let n = got.length;
-    if got.cut {
-        complain(rt, b"", b"a line of 65536 bytes or more ends the work\n");
-    } else {
-        answer(rt, function, &line[0..n]);
-    }
-    got.last
-}
-
-fn answer_lines(rt: &(impl Print + Input), function: u32) {
-    let mut turns = u64::MAX;
-    while turns > 0 && !answer_line(rt, function) {
-        turns -= 1;
-    }
-}
-
-// The word's bytes and a blank, put behind the first `at` bytes of the line as far as there is room.
-fn append(line: &mut [u8], at: usize, word: &[u8]) -> usize
-    requires { at ≤ length line.old }
-    ensures { result ≤ length line.new }
+// Word i of the command line, if it is there. One that is empty, or too long for the buffer, counts as a question mark.
+// `env::args` would refuse a word that is not UTF-8, so each is asked for as bytes, which fill a buffer that is lent.
+fn argument(rt: &(impl Env + AllocGlobal), i: usize) -> Result<Option<Vec<u8>>, AllocError>
+    ensures { IfOk result (λ word. IfSome word (λ bytes. 0 < vec_len bytes)) }
 {
-    let mut to = at;
-    let mut i = 0;
-    while i < word.len() {
-        if line.len() <= to {
-            return to;
-        }
-        line[to] = word[i];
-        to += 1;
-        i += 1;
-    }
-    if line.len() <= to {
-        return to;
-    }
-    line[to] = b' ';
-    to + 1
+    let mut buffer = [0; 4096];
+    let word = match rt.arg(i, &mut buffer) {
+        Err(FillError::NotPresent) => return Ok(None),
+        Ok(0) | Err(FillError::TooLong) => b"?",
+        Ok(n) => &buffer[..n],
+    };
+    Ok(Some(word.to_vec(rt.alloc())?))
 }
 
-// Word i of the command line put behind the first `at` bytes. One that is empty, or too long, counts as a question mark.
-fn append_word(rt: &impl Env, line: &mut [u8], at: usize, i: usize) -> usize
-    requires { at ≤ length line.old }
-    ensures { result ≤ length line.new }
-{
-    let mut word = [0u8; 4096];
-    let n = rt.arg(i, &mut word).unwrap_or(0);
-    if n == 0 {
-        append(line, at, b"?")
-    } else {
-        append(line, at, &word[..n])
+// The words of the command line, without the program's name.
+fn arguments(rt: &(impl Env + AllocGlobal)) -> Result<Vec<Vec<u8>>, AllocError> {
+    let mut words = Vec::new(rt.alloc());
+    // counted, and no `env::args`, as `argument` says
+    for i in 1..usize::MAX {
+        let Some(word) = argument(rt, i)? else {
+            break;
+        };
+        words.push(word)?;
     }
+    Ok(words)
 }
 
-// The words of the command line as one line.
-fn command_line(rt: &impl Env, count: usize, line: &mut [u8]) -> usize
-    ensures { result ≤ length line.new }
+// Words as one line, of which no more counts than of a line of the input.
+fn line_of(alloc: Global, words: &[Vec<u8>]) -> Result<Vec<u8>, AllocError>
+    ensures { IfOk result (λ line. line.items ≡ take 65536 (one_line (map (λ word. word.items) words.now))) }
 {
-    let mut to = 0;
-    let mut i = 1;
-    while i < count {
-        to = append_word(rt, line, to, i);
-        i += 1;
+    let mut line = Vec::new(alloc);
+    for word in words {
+        line.extend_from_slice(word)?;
+        line.push(b' ')?;
     }
-    to
+    line.truncate(TOO_LONG);
+    Ok(line)
 }
 
 // A single word: help, or a function for the lines of the standard input.
-fn single(rt: &(impl Print + Input), line: &[u8]) {
-    let a = words::find(line, 0, false);
-    let e = words::find(line, a, true);
-    let word = &line[a..e];
-    if 0 < words::place(word, b"help --help") {
-        usage(rt);
-        return;
+fn single(rt: &(impl Print + Input + AllocGlobal), argument: &[u8]) -> Result<(), AllocError> {
+    let words = words::words(rt.alloc(), argument)?;
+    let word = words.first().copied().unwrap_or(b"");
+    if matches!(word, b"help" | b"--help") {
+        let _ = rt.println(USAGE);
+        return Ok(());
     }
-    let function = known(rt, word);
-    if function != functions::UNKNOWN {
-        answer_lines(rt, function);
-    }
-}
-
-// No words: the lines of the standard input, if they are not typed.
-fn no_words(rt: &(impl Print + Input), typed: bool) {
-    if typed {
-        usage(rt);
-    } else {
-        answer_lines(rt, functions::UNKNOWN);
+    match Function::try_from(word) {
+        Ok(function) => answer_lines(rt, Some(function)),
+        Err(complaint) => {
+            let _ = complaint.print(rt);
+            Ok(())
+        }
     }
 }
 
-fn some_words(rt: &(impl Print + Input + Env), count: usize) {
-    let mut line = [0u8; 65536];
-    let n = command_line(rt, count, &mut line);
-    if count == 2 {
-        single(rt, &line[0..n]);
-    } else {
-        request(rt, &line[0..n]);
+fn main(rt: HostRuntime) -> Result<(), AllocError> {
+    let words = arguments(&rt)?;
+    match words.as_slice() {
+        [] if rt.stdin().is_terminal() => {
+            let _ = rt.println(USAGE);
+        }
+        [] => answer_lines(&rt, None)?,
+        [word] => single(&rt, word)?,
+        words => answer_line(&rt, None, &line_of(rt.alloc(), words)?),
     }
-}
-
-// Is there a word i of the command line?
-fn has_word(rt: &impl Env, i: usize) -> bool {
-    let mut word = [0u8; 4096];
-    match rt.arg(i, &mut word) {
-        Err(FillError::NotPresent) => false,
-        _ => true,
-    }
-}
-
-// How many words the command line has, the program's name among them.
-fn count_words(rt: &impl Env) -> usize {
-    let mut count = 0;
-    while count < usize::MAX && has_word(rt, count) {
-        count += 1;
-    }
-    count
-}
-
-fn main(rt: HostRuntime) {
-    let count = count_words(&rt);
-    if count < 2 {
-        no_words(&rt, rt.stdin().is_terminal());
-    } else {
-        some_words(&rt, count);
-    }
+    Ok(())
 }

@@ -1,6 +1,6 @@
 -- Taking a float above zero apart by its bit pattern: from 2 ^ 23 on the pattern holds the exponent and the digits, below it the pattern is the number of units.
 -- Assumes nothing.
-use mathlib.Core.Path.{◌≡◌, sym, ap, ◌∙◌, subst, subst₂}
+use mathlib.Core.Path.{◌≡◌, refl, sym, ap, ◌∙◌, subst, subst₂}
 use mathlib.Core.Logic.{◌⊎◌, inl, inr}
 use mathlib.Core.Bool.{Bool, true, false, not, true≢false}
 use Prim.Native.Nat.{ℕ, suc, ◌+◌, ◌-◌, ◌*◌, ◌/◌, ◌%◌, ◌^◌, ◌≤◌, ◌<◌}
@@ -34,6 +34,16 @@ equal_to_itself (fin s m k) e = tt
 
 pub no_number : (x : Float) → ne x x ≡ true → ¬ Number x
 no_number x e h = (subst Number (differs_from_itself x (subst T (sym e) tt)) h).is_finite
+
+-- what `is_nan` tells is the one NaN, and no number
+pub the_nan : (x : Float) → is_nan x ≡ true → x ≡ nan
+unfolding is_nan
+the_nan nan e = refl
+the_nan (inf s) e = absurd (true≢false (sym e))
+the_nan (fin s m k) e = absurd (true≢false (sym e))
+
+pub nan_is_none : (x : Float) → is_nan x ≡ true → ¬ Number x
+nan_is_none x e h = (subst Number (the_nan x e) h).is_finite
 
 -- ---- below 2 ^ 23: the digits are shifted up to the 24th place
 module _ (b : ℕ) (above : 0 < b) (low : b < 2 ^ 23) where
@@ -99,9 +109,6 @@ module _ (x : Float) (p : Positive x) where
 
   pub leading_low : b < 2 ^ 23 → 8 ≤ count_leading_zeros 32 b
   leading_low h = leading b (units_above h) h
-
-  pub shift_low : b < 2 ^ 23 → count_leading_zeros 32 b - 8 ≤ 23
-  shift_low h = shift_small b (units_above h) h
 
   pub apart_low : b < 2 ^ 23 → Apart x (b * 2 ^ (count_leading_zeros 32 b - 8) % 4294967296) (24 - (count_leading_zeros 32 b - 8))
   apart_low h = apart_units b (units_above h) h x (low_is h)

@@ -4,32 +4,33 @@ ghost use Rattle.std.specs.Prelude.{◌≡◌, ◌+◌, ◌*◌, ◌/◌, ◌^�
 ghost use Rattle.fixed.specs.Division.{IsQuotient};
 
 // A quotient, and what is left.
-#[derive(Drop)]
+#[derive(Clone, Copy)]
 struct Divided {
     q: u32,
     r: u32,
 }
 
-// One digit, the quotient of r * 2^16 + b by a divisor with its top bit set. The first one tried is never too large, and at most 2 too small.
+// One digit, the quotient of r * 2^16 + b by a divisor with its top bit set. The first one tried is never too large,
+// and at most 2 too small.
 fn digit(r: u32, b: u32, d: u32) -> Divided
     requires { (2 ^ 31 ≤ d) × (r < d) × (b < 65536) }
     ensures { IsQuotient (r * 65536 + b) d result.q result.r × (result.q < 65536) }
 {
-    let w = d as u64;
+    let w = u64::from(d);
     let q = r / (d / 65536 + 1);
-    let m = (r as u64) * 65536 + (b as u64) - (q as u64) * w;
+    let m = u64::from(r) * 65536 + u64::from(b) - u64::from(q) * w;
     if m < w {
-        return Divided { q, r: m as u32 };
-    }
-    if m < 2 * w {
-        return Divided {
+        Divided { q, r: m as u32 }
+    } else if m < 2 * w {
+        Divided {
             q: q + 1,
             r: (m - w) as u32,
-        };
-    }
-    Divided {
-        q: q + 2,
-        r: (m - 2 * w) as u32,
+        }
+    } else {
+        Divided {
+            q: q + 2,
+            r: (m - 2 * w) as u32,
+        }
     }
 }
 
@@ -38,7 +39,7 @@ pub fn quotient(n: u64, d: u32) -> u32
     requires { n < d * 4294967296 }
     ensures { result ≡ n / d }
 {
-    let z = u32::leading_zeros(d);
+    let z = d.leading_zeros();
     let v = d << z;
     let m = n << z;
     let h = digit((m / 4294967296) as u32, (m / 65536 % 65536) as u32, v);
@@ -51,8 +52,8 @@ pub fn quotient_of_next(n: u64, d: u32) -> u32
     requires { n < (d + 1) * 4294967296 }
     ensures { result ≡ n / (d + 1) }
 {
-    if d < 0xffff_ffff {
-        return quotient(n, d + 1);
+    match d.checked_add(1) {
+        Some(next) => quotient(n, next),
+        None => (n / 4294967296) as u32,
     }
-    (n / 4294967296) as u32
 }

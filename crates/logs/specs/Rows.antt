@@ -1,5 +1,6 @@
--- The polynomials of the logarithm, a row of coefficients for each sixteenth of an octave: what src/rows.rt holds. A reader of the promises need not read this. Definitions only.
-use Rattle.std.specs.Prelude.{◌≡◌, ℕ, ◌-◌, ◌^◌, ◌<◌, List, [], ◌∷◌, slice_index_or}
+-- The polynomials of the logarithm, a row of coefficients for each sixteenth of an octave: what src/rows.rt holds. A
+-- reader of the promises need not read this. Definitions only.
+use Rattle.std.specs.Prelude.{ℕ, ◌-◌, ◌^◌, ◌<◌, List, [], ◌∷◌, slice_index_or, All}
 
 -- lowest coefficient first, in units of 2 ^ -31, for the powers of the distance to the sixteenth's upper end
 abbrev pub rows : List (List ℕ)
@@ -26,10 +27,6 @@ rows =
 abbrev pub row : ℕ → List ℕ
 row i = slice_index_or rows i []
 
--- a to e are the row of the sixteenth i, and leave room in a word for what the next power adds
-pub record IsRow (i a b c d e : ℕ) : Type 0 where
-  pub same : (a ∷ b ∷ c ∷ d ∷ e ∷ []) ≡ row i
-  pub room_a : a < 2 ^ 32 - 2 ^ 28
-  pub room_b : b < 2 ^ 32 - 2 ^ 28
-  pub room_c : c < 2 ^ 32 - 2 ^ 28
-  pub room_d : d < 2 ^ 32 - 2 ^ 28
+-- each coefficient leaves room in a word for what the next power adds
+abbrev pub HasRoom : List ℕ → Type 0
+HasRoom cs = All (λ c. c < 2 ^ 32 - 2 ^ 28) cs

@@ -1,5 +1,5 @@
 -- The words of a bent channel: those of its two segments, one after the other. Assumes nothing.
-use Rattle.std.proofs.Common.{◌≡◌, ℕ, ◌+◌, ◌-◌, ◌<◌, ◌≤◌, ◌⊎◌, List, [], ◌++◌, length, get_or, take, drop, set, sym, ap, ◌∙◌, ap₂, inl, inr, append-nil, le_trans, le_of_eq, le-add_right, le_of_lt, not-le_of_lt, arith, length-append, length-drop, get_or-drop, get_or-take, take_at, drop_at, le-leb}
+use Rattle.std.proofs.Common.{◌≡◌, ℕ, ◌+◌, ◌-◌, ◌<◌, ◌≤◌, ◌⊎◌, List, [], ◌++◌, length, get_or, take, drop, set, sym, ap, ◌∙◌, ap₂, inl, inr, append-nil, le_trans, le_of_eq, le-add_right, le_of_lt, not-le_of_lt, arith, length-append, get_or-drop, get_or-take, take_at, drop_at, le-leb}
 use borrow.Author.Tests.{lt-leb}
 use lib.Seq.{take-set-lt, drop-set-add, drop-length}
 use borrow.Rule.Slice.PartMut.{put_mid, post_of, Post-is}
@@ -15,14 +15,11 @@ use Rattle.loudness.specs.Fitted.{fitted_knee, Changed}
 use Rattle.loudness.proofs.Growth.{step_quiet}
 use Rattle.loudness.proofs.Promise.{segment}
 use Rattle.loudness.proofs.Bent.{knee_below, knee_above}
-use Rattle.loudness.proofs.Check.{rest, changed_fails}
+use Rattle.loudness.proofs.Check.{changed_fails}
 use Rattle.loudness.proofs.Fitting.{bounded, threshold_in_lem, comfort_in_lem, segment_passes, segment_words_few, segment_length, past_level, not_wrapped, at_top, same_step}
 
 -- ---- the words of two segments, written over twelve
 module _ (w x : List ℕ) (six : length x ≡ 6) where
-  pub second_length : length w ≡ 12 → length (take (length (x ++ drop 6 w) - 6) (drop 6 (x ++ drop 6 w))) ≡ 6
-  second_length h = ap length (rest (x ++ drop 6 w) ∙ drop_at x (drop 6 w) 6 six) ∙ length-drop 6 w ∙ ap (λ (n : ℕ). n - 6) h
-
   pub both_halves : (y : List ℕ) → put_mid 6 (length (x ++ drop 6 w) - 6) (x ++ drop 6 w) y ≡ x ++ y
   both_halves y =
       let l = x ++ drop 6 w in

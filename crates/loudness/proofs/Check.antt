@@ -1,5 +1,5 @@
 -- The check of a segment's words: six words, their sum, and what a changed word does to it. Assumes nothing.
-use Rattle.std.proofs.Common.{◌≡◌, ℕ, zero, suc, ◌+◌, ◌-◌, ◌%◌, ◌^◌, ◌<◌, List, [], ◌∷◌, length, get_or, take, drop, set, refl, ap, ◌∙◌, le_of_eq, arith, length-drop, take_all}
+use Rattle.std.proofs.Common.{◌≡◌, ℕ, zero, suc, ◌+◌, ◌-◌, ◌%◌, ◌^◌, ◌<◌, List, [], ◌∷◌, length, get_or, set, refl, ap, ◌∙◌, arith}
 use Rattle.loudness.specs.Words.{total, check_sum, check_of, five_words, Passes}
 use Rattle.loudness.specs.Fitted.{Changed}
 
@@ -48,10 +48,6 @@ total_six w h = let s = six w h in rw s.same (omega arith)
 pub all_set : (w : List ℕ) → length w ≡ 6 → (a b c d e f : ℕ) → set (set (set (set (set (set w 0 a) 1 b) 2 c) 3 d) 4 e) 5 f ≡ a ∷ b ∷ c ∷ d ∷ e ∷ f ∷ []
 all_set w h a b c d e f = let s = six w h in rw s.same
 
--- six words after six
-pub rest : (w : List ℕ) → take (length w - 6) (drop 6 w) ≡ drop 6 w
-rest w = take_all (length w - 6) (drop 6 w) (le_of_eq (length-drop 6 w))
-
 -- a changed word changes the sum by as much
 changed_total : (w : List ℕ) (j v : ℕ) → j < length w → total (set w j v) + get_or w j 0 ≡ total w + v
 unfolding total
@@ -95,3 +91,16 @@ module _ (s l h p r : ℕ) where
   five_few u v x y z (suc (suc (suc (suc zero)))) = z
   five_few u v x y z (suc (suc (suc (suc (suc zero))))) = omega arith
   five_few u v x y z (suc (suc (suc (suc (suc (suc j)))))) = omega arith
+
+-- and a list is its first five words and their check where its last word is that check, which it is where the list passes
+module _ (w : List ℕ) (six_words : length w ≡ 6) where
+  abbrev five : ℕ
+  five = get_or w 0 0 + get_or w 1 0 + get_or w 2 0 + get_or w 3 0 + get_or w 4 0
+
+  pub five_of : get_or w 5 0 ≡ check_of five → five_words (get_or w 0 0) (get_or w 1 0) (get_or w 2 0) (get_or w 3 0) (get_or w 4 0) ≡ w
+  unfolding five_words
+  five_of e = let s = six w six_words in rw s.same (rw (rw s.same at e))
+
+  pub check_last : get_or w 5 0 < 4294967296 → Passes w → get_or w 5 0 ≡ check_of five
+  unfolding check_of
+  check_last l p = let t = total_six w six_words in omega arith

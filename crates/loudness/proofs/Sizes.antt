@@ -164,6 +164,14 @@ module _ (b m : Float) where
         next : (S g : ℕ) → l ≡ packed S g → h ≡ size_bits m → size_bits m < packed S (suc g)
         next S g e f = omega arith
 
+    -- so the patterns are in order too
+    pub in_bits : (864026624 ≤ l) × (h ≤ 1065353216) × (l + 8388608 ≤ h)
+    in_bits = (
+      elim (le-or-lt 864026624 l) [ inl t ↦ t | inr t ↦ absurd (too_quiet t) ],
+      elim (le-or-lt h 1065353216) [ inl t ↦ t | inr t ↦ absurd (too_loud t) ],
+      elim (le-or-lt (l + 8388608) h) [ inl t ↦ t | inr t ↦ absurd (no_octave t) ],
+    )
+
 -- ---- an envelope value
 pub envelope : (a : Float) → T (fits binary32 a) → Tells (Envelope a) (leb (size_bits a) 1065353216)
 unfolding size_bits

@@ -1,11 +1,11 @@
 -- The promises of fitting and of stepping, joined from their pieces. Assumes nothing.
-use Rattle.std.proofs.Common.{◌≡◌, ℕ, ◌+◌, ◌-◌, ◌<◌, ◌≤◌, List, [], length, take, drop, sym, refl, ap, ◌∙◌, subst, inl, inr, le_of_eq, arith, length-drop, length-set, length-take-le, take_all}
+use Rattle.std.proofs.Common.{◌≡◌, ℕ, ◌+◌, ◌-◌, ◌≤◌, List, [], length, take, drop, sym, refl, ap, ◌∙◌, subst, inl, inr, le_of_eq, arith, length-drop, length-set, take_all}
 use lib.Ieee.{Float}
 use Rattle.units.specs.Answers.{Ends, itself}
 use Rattle.units.proofs.Answers.{written, untouched}
 use Rattle.loudness.specs.Map.{Channel, Envelope}
 use Rattle.loudness.specs.Segment.{Segment, size_bits}
-use Rattle.loudness.specs.Words.{Passes, BentPasses, Answered, Chosen, step_in, bent_in, five_words, segment_words}
+use Rattle.loudness.specs.Words.{Passes, BentPasses, Answered, Chosen, ChosenWords, step_in, bent_in, five_words, segment_words}
 use Rattle.loudness.specs.Fitted.{fitted_of, fitted_knee, as_they_are, Fits, Changed, Step}
 use Rattle.loudness.proofs.Promise.{segment, promised, out_of_range}
 use Rattle.loudness.proofs.Bent as bends
@@ -106,7 +106,7 @@ module _ (w : List ℕ) (a : Float) (twelve : length w ≡ 12) where
   }
 
   module _ (p : BentPasses w) where
-    bent_refused : (i : ℕ) → ¬ Envelope a → Step w a 1 i
+    pub bent_refused : (i : ℕ) → ¬ Envelope a → Step w a 1 i
     bent_refused i n = record {
       bad_length = λ h k. absurd (k twelve);
       straight = λ top b m t c ch e. absurd (not_straight (ap length e ∙ segment_length b m t c));
@@ -182,41 +182,15 @@ module _ {a : Float} {code before after : ℕ} where
       at_half : at ≡ 6 → Ends itself (Answered (take 6 (drop 6 w)) a) code before after
       at_half e = subst (λ (i : ℕ). Ends itself (Answered (take (i + 6 - i) (drop i w)) a) code before after) e x
 
--- they are six
-module _ (w : List ℕ) (a : Float) (at : ℕ) (ch : Chosen w a at) (l : at ≤ 6) where
-  pub chosen_fits : at + 6 ≤ length w
-  chosen_fits =
+  -- as they stand
+  pub by_words : (w v : List ℕ) → ChosenWords w a v → Ends itself (Answered v a) code before after → Ends itself (Step w a) code before after
+  by_words w v ch x =
       elim ch.how [
-        | inl (e, n, n') ↦ absurd (omega arith)
-        | inr (inl (e, s, n)) ↦ absurd (omega arith)
-        | inr (inr (inl (e, s))) ↦ omega arith
-        | inr (inr (inr (inl (e, (s, p, h))))) ↦ omega arith
-        | inr (inr (inr (inr (e, (s, p, h))))) ↦ omega arith
-      ]
-
-  pub chosen_six : length (take (at + 6 - at) (drop at w)) ≡ 6
-  chosen_six = let f = chosen_fits in length-take-le (at + 6 - at) (drop at w) (rw (length-drop at w) (omega arith)) ∙ omega arith
-
--- what else was found
-module _ (w : List ℕ) (a : Float) (at : ℕ) (ch : Chosen w a at) {before : ℕ} where
-  pub as_other : at ≡ 7 → Ends itself (Step w a) 2 before before
-  as_other z =
-      elim ch.how [
-        | inl (e, n, n') ↦ no_number w a n n'
-        | inr (inl (e, s, n)) ↦ absurd (omega arith)
-        | inr (inr (inl (e, s))) ↦ absurd (omega arith)
-        | inr (inr (inr (inl (e, (s, p, h))))) ↦ absurd (omega arith)
-        | inr (inr (inr (inr (e, (s, p, h))))) ↦ absurd (omega arith)
-      ]
-
-  pub as_failed : 6 < at → ¬ (at ≡ 7) → Ends itself (Step w a) 4 before before
-  as_failed l z =
-      elim ch.how [
-        | inl (e, n, n') ↦ absurd (z e)
-        | inr (inl (e, s, n)) ↦ no_bent_pass w a s n
-        | inr (inr (inl (e, s))) ↦ absurd (omega arith)
-        | inr (inr (inr (inl (e, (s, p, h))))) ↦ absurd (omega arith)
-        | inr (inr (inr (inr (e, (s, p, h))))) ↦ absurd (omega arith)
+        | inl (s, e) ↦ as_chosen w 0 (record { how = inr (inr (inl (refl, s))) }) (omega arith) (rw (take_all 6 w (le_of_eq s), ← e) x)
+        | inr (inl (l, e)) ↦ as_chosen w 0 (record { how = inr (inr (inr (inl (refl, l)))) }) (omega arith) (rw (← e) x)
+        | inr (inr (u, e)) ↦
+            let s = length-drop 6 w ∙ ap (λ (n : ℕ). n - 6) u.0 in
+            as_chosen w 6 (record { how = inr (inr (inr (inr (refl, u)))) }) (omega arith) (rw (take_all 6 (drop 6 w) (le_of_eq s), ← e) x)
       ]
 
 -- ---- how a call of `fit` or `fit_knee` ends

@@ -87,6 +87,10 @@ pub record Chosen (w : List ℕ) (a : Float) (at : ℕ) : Type 0 where
   pub how : ((at ≡ 7) × ¬ (length w ≡ 6) × ¬ (length w ≡ 12))
       ⊎ (((at ≡ 8) × (length w ≡ 12) × ¬ BentPasses w) ⊎ (((at ≡ 0) × (length w ≡ 6)) ⊎ (((at ≡ 0) × Lower w a) ⊎ ((at ≡ 6) × Upper w a))))
 
+-- and these words, v
+pub record ChosenWords (w : List ℕ) (a : Float) (v : List ℕ) : Type 0 where
+  pub how : ((length w ≡ 6) × (v ≡ w)) ⊎ ((Lower w a × (v ≡ take 6 w)) ⊎ (Upper w a × (v ≡ drop 6 w)))
+
 -- ---- the words of a segment
 -- the word of a span: its upper half, shifted up to 32 binary digits
 unfoldable pub span_of : ℕ → ℕ
@@ -95,12 +99,6 @@ span_of d = word_of (places_of d) d
 -- k steps over the span h, in steps of 2 ^ -65, and one more
 unfoldable pub factor_of : ℕ → ℕ → ℕ
 factor_of k h = k * 36893488147419103232 / h + 1
-
--- what the map needs of a segment: the logarithm of its lower level, the power of two that brings its rises to words, and the factor
-pub record IsLine (b m : Float) (t c low s f : ℕ) : Type 0 where
-  pub level : low ≡ fixed_of b
-  pub places : s ≡ 2 ^ places_of (rise_of b m)
-  pub factor : f ≡ factor_of (c - t) (span_of (rise_of b m))
 
 -- the steps and the upper digits of the factor f
 unfoldable pub steps_word : (t c f : ℕ) → ℕ

@@ -4,7 +4,7 @@ use mathlib.Core.List.{List}
 use Prim.Native.Nat.{ℕ, ◌-◌, ◌%◌}
 use lib.ListN.{get_or}
 use borrow.Author.Tests.{eq-eqb, ne_eqb}
-use Rattle.path.specs.Steps.{size_of, modulus_of, Modulus, real_size, imaginary_size}
+use Rattle.path.specs.Steps.{size_of, real_size, imaginary_size}
 
 module _ (r : List ℕ) (k : ℕ) where
   pub real_is : size_of (get_or r k 0) ≡ real_size r k
@@ -18,7 +18,3 @@ module _ (r : List ℕ) (k : ℕ) where
   pub imaginary_some : ¬ (k % 64 ≡ 0) → size_of (get_or r (128 - k) 0) ≡ imaginary_size r k
   unfolding imaginary_size
   imaginary_some h = rw (ne_eqb (k % 64) 0 h) refl
-
--- a modulus by other names of its parts
-pub carried : (re im R I g : ℕ) → re ≡ R → im ≡ I → (g ≡ modulus_of re im) × Modulus re im g → (g ≡ modulus_of R I) × Modulus R I g
-carried re im R I g a b h = rw (a, b) at h

@@ -1,26 +1,19 @@
--- Levels by their patterns, and tests of bands. Assumes nothing.
+-- Levels by their patterns. Assumes nothing.
 use mathlib.Core.Path.{◌≡◌, sym, subst}
-use mathlib.Core.Logic.{◌⊎◌, inl, inr}
-use mathlib.Core.Bool.{Bool, false, not, true≢false}
-use mathlib.Core.List.{List}
+use mathlib.Core.Logic.{inl, inr}
+use mathlib.Core.Bool.{Bool, not}
 use Prim.Native.Nat.{ℕ, ◌+◌, ◌≤◌, ◌<◌}
 use native.Mathlib.Omega.{arith}
 use lib.Dec.{T}
 use lib.Ieee.{binary32, of_bits, to_bits, nan_bits}
 use lib.Ieee.Bits.{nan_bits_is}
 use Rattle.units.specs.Units.{Number}
-use Rattle.units.specs.Tests.{Tells}
 use Rattle.units.proofs.Naturals.{le-or-lt}
 use Rattle.units.proofs.Bits.{no_nan_positive}
 use Rattle.units.proofs.Patterns.{pattern_back}
 use Rattle.spectrum.proofs.Loads.{no_nan}
 use Rattle.loudness.specs.Map.{Levels}
 use Rattle.loudness.proofs.Sizes.{too_loud, no_octave}
-use Rattle.path.specs.Path.{Band, Bands}
-
--- an answer of no
-pub refuse : {H : Type 0} → ¬ H → Tells H false
-refuse n = record { if_true = λ e. absurd (true≢false (sym e)); if_false = λ e. n }
 
 -- ---- patterns up to that of 1
 pub readable : (p : ℕ) → p ≤ 1065353216 → T (not (nan_bits binary32 p))
@@ -39,16 +32,3 @@ module _ (p q : ℕ) (lp : p < 4294967296) (lq : q < 4294967296) (v : Levels (of
     where
       far : {p q : ℕ} → 1065353216 < p → q ≤ 1065353216 → q < p + 8388608
       far a b = omega arith
-
--- ---- one band more
-pub bands_none : (top : ℕ) (bs : List ℕ) → Bands top bs 0
-bands_none top bs = record { each = λ i l. absurd (omega arith) }
-
-pub bands_more : (top : ℕ) (bs : List ℕ) (n : ℕ) → Bands top bs n → Band top bs n → Bands top bs (n + 1)
-bands_more top bs n h b = record { each = λ i l. elim (last i l) [ inl e ↦ subst (Band top bs) (sym e) b | inr g ↦ h.each i g ] }
-  where
-    last : (i : ℕ) → i < n + 1 → (i ≡ n) ⊎ (i < n)
-    last i l = elim (le-or-lt n i) [ inl g ↦ inl (both g l) | inr g ↦ inr g ]
-      where
-        both : n ≤ i → i < n + 1 → i ≡ n
-        both g l = omega arith

@@ -1,5 +1,7 @@
 pub mod Squares
 pub mod Products
+pub mod Samples
+pub mod Chunks
 pub mod Roots
 pub mod Bins
 pub mod Channels

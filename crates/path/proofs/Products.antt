@@ -5,7 +5,8 @@ use mathlib.Core.Bool.{Bool, true, false, cond}
 use Prim.Native.Nat.{ℕ, ◌+◌, ◌-◌, ◌*◌, ◌/◌, ◌%◌, ◌^◌, ◌≤◌, ◌<◌}
 use native.Mathlib.Nat.{le_trans, le_of_eq, lt_of_le_of_lt, lt_of_lt_of_le, mul_comm, mul-one, div-eq_of_lt, mul-le-mul, mul-le-mul_right, mul-div-mul_right, div-mul-le_self, lt-div-mul-add, le_of_mul-le-mul_right}
 use native.Mathlib.Omega.{arith}
-use lib.Dec.{lit<}
+use borrow.Author.Tests.{lt-ltb, le-ltb}
+use lib.Dec.{lit<, ltb}
 use lib.Pow.{pow-add, pow_pos, pow_mono}
 use lib.Ieee.{Float, binary32, to_bits}
 use Rattle.units.specs.Units.{mag, negative, Number}
@@ -89,6 +90,13 @@ module _ (p q : ℕ) (lp : p ≤ 1065353216) (lq : q ≤ 1065353216) where
     ]
     | inr a ↦ sym (none (omega arith)) ∙ nothing (size_in p) (size_in q) (low_size p a) (one_size q lq)
   ]
+
+-- ---- of 64 digits nothing is left without as many
+pub unbounded : (n s : ℕ) → n < 2 ^ 64 → cond (ltb s 64) (n / 2 ^ s) 0 ≡ n / 2 ^ s
+unbounded n s l = elim (le-or-lt 64 s) [
+  | inl h ↦ rw (le-ltb s 64 h) (sym (div-eq_of_lt (lt_of_lt_of_le l (pow_mono {i = 64} {j = s} h))))
+  | inr h ↦ rw (lt-ltb s 64 h) refl
+]
 
 -- ---- sizes
 full_scale : size_in 1065353216 ≡ 2 ^ 149

@@ -1,61 +1,31 @@
 -- How a call ends: what is accepted gets a current for each band, anything else a code and nothing else. Assumes nothing.
 use mathlib.Core.Path.{◌≡◌, refl, sym, ap, ◌∙◌, subst}
-use mathlib.Core.Logic.{inl, inr}
 use mathlib.Core.List.{List, []}
-use Prim.Native.Nat.{ℕ, suc, ◌+◌, ◌-◌, ◌*◌, ◌%◌, ◌^◌, ◌≤◌, ◌<◌, zero-le}
-use native.Mathlib.Nat.{le_trans, le_of_eq, lt_of_lt_of_le}
+use Prim.Native.Nat.{ℕ, suc, ◌+◌, ◌-◌, ◌*◌, ◌%◌, ◌≤◌, ◌<◌, zero-le}
+use native.Mathlib.Nat.{le_trans, le_of_eq}
 use native.Mathlib.Omega.{arith}
-use lib.Dec.{T, lit<}
 use lib.ListN.{length, get_or}
-use lib.Ieee.{Float, binary32, fits}
+use lib.Ieee.{Float}
 use Rattle.units.specs.Units.{mag}
 use Rattle.units.specs.Answers.{Ends}
 use Rattle.units.proofs.Answers.{written, untouched}
-use Rattle.units.proofs.Naturals.{le-or-lt}
 use Rattle.units.proofs.Signs.{size-sum}
-use Rattle.units.proofs.Patterns.{finite_below}
 use Rattle.spectrum.specs.Difference.{Difference, times, size}
 use Rattle.spectrum.specs.Table.{unit, cosine_below, sine_below}
 use Rattle.spectrum.specs.Words.{FilledWith}
 use Rattle.spectrum.specs.Transform.{at, units_of, turned_total, Turns}
-use Rattle.spectrum.specs.Floats.{digits_in, place_in, size_in, size_bits, Largest}
 use Rattle.spectrum.proofs.Differences as D
 use Rattle.spectrum.proofs.Differences.{total-length}
 use Rattle.spectrum.proofs.Cosines.{own_table}
-use Rattle.spectrum.proofs.Sizes.{size_of, size_mono}
 use Rattle.loudness.specs.Value.{step_of}
-use Rattle.path.specs.Path.{lo, hi, quietest, loudest, threshold, comfort, Lengths, Band, Bands, Sample, Samples, Accepts, product, power, in_sums, NearPath, path_error_num, path_error_den, as_they_are, Currents}
+use Rattle.path.specs.Path.{lo, hi, quietest, loudest, threshold, comfort, Lengths, Band, Bands, Samples, Accepts, product, power, in_sums, NearPath, path_error_num, path_error_den, as_they_are, Currents}
 use Rattle.path.specs.Steps.{Products, modulus_of, real_size, imaginary_size, Moduli, envelope_of, sum_from, IsCurrent}
 use Rattle.path.specs.Ready.{Small, current_at, Stepped}
 use Rattle.path.proofs.Adding.{sum_same}
-use Rattle.path.proofs.Products.{small_size}
+use Rattle.path.proofs.Samples.{small_of}
 use Rattle.path.proofs.Envelopes.{envelope}
 use Rattle.path.proofs.Ratios.{law}
 use Rattle.path.proofs.Current.{near, silent}
-
--- ---- samples by their patterns
-past_one : 2 ^ 149 < size_in 1065353217
-unfolding digits_in place_in
-past_one = lit< tt
-
-pub small_of : (x : Float) → Sample x → Small x
-small_of x h = record { number = h.number; bits = elim (le-or-lt (size_bits x) 1065353216) [ inl l ↦ l | inr l ↦ absurd (wrong (lt_of_lt_of_le past_one (le_trans (size_mono 1065353217 (size_bits x) l) (le_of_eq (sym (size_of x h.number))))) h.small) ] }
-  where
-    wrong : {a b : ℕ} → a < b → b ≤ a → ⊥
-    wrong p q = omega arith
-
-pub sample_of : (x : Float) → Small x → Sample x
-sample_of x h = record { number = h.number; small = small_size x h }
-
-pub small_by : (x : Float) → T (fits binary32 x) → size_bits x ≤ 1065353216 → Small x
-small_by x f l = record { number = finite_below x f (omega arith); bits = l }
-
--- a largest pattern above that of 1 is that of no sample
-pub too_large : (xs : List Float) (m : ℕ) → Largest xs 128 m → 1065353216 < m → ¬ ((i : ℕ) → i < 128 → Sample (at xs i))
-too_large xs m h l all = let (i, b, e) = h.there (λ z. omega arith) in wrong (small_of (at xs i) (all i b)).bits e
-  where
-    wrong : {b : ℕ} → b ≤ 1065353216 → b ≡ m → ⊥
-    wrong p q = omega arith
 
 -- ---- refusals
 module _ (top : ℕ) (xs ws : List Float) (bs : List ℕ) (n : ℕ) {before : List ℕ} where

@@ -1,10 +1,10 @@
 -- The root of a sum of two squares from the first digits of both, and a root of 24 digits. Assumes nothing.
 use mathlib.Core.Path.{◌≡◌, refl, sym, ap, ap₂, ◌∙◌, subst}
 use mathlib.Core.Logic.{◌⊎◌, inl, inr}
-use Prim.Native.Nat.{ℕ, suc, ◌+◌, ◌-◌, ◌*◌, ◌/◌, ◌%◌, ◌^◌, ◌≤◌, ◌<◌, zero-le}
-use native.Mathlib.Nat.{le_trans, le_of_eq, mul-le-mul, mul-le-mul_left, mul-le-mul_right, le_of_mul-le-mul_right, mul-pos, lt_of_le_of_lt, lt_of_lt_of_le, mod-eq_of_lt, lt-div-mul-add, div-mul-le_self, eq-zero-or-pos}
+use Prim.Native.Nat.{ℕ, suc, ◌+◌, ◌-◌, ◌*◌, ◌/◌, ◌%◌, ◌^◌, ◌≤◌, ◌<◌, max, zero-le}
+use native.Mathlib.Nat.{le_trans, le_of_eq, mul-le-mul, mul-le-mul_left, mul-le-mul_right, le_of_mul-le-mul_right, mul-pos, lt_of_le_of_lt, lt_of_lt_of_le, mod-eq_of_lt, lt-div-mul-add, div-mul-le_self, eq-zero-or-pos, max-eq_left, max-eq_right, le-max_left, le-max_right}
 use native.Mathlib.Omega.{arith}
-use borrow.Author.Tests.{lt-ltb, le-ltb, lt-leb, le-leb, eq-eqb, ne_eqb}
+use borrow.Author.Tests.{lt-leb, le-leb, eq-eqb, ne_eqb}
 use lib.Count.{count_leading_zeros}
 use lib.Dec.{lit<, lit≤}
 use lib.Pow.{pow_pos}
@@ -13,7 +13,7 @@ use Rattle.fixed.proofs.Rounding.{placed}
 use Rattle.roots.specs.Value.{IsNear}
 use Rattle.roots.proofs.SquareRoot.{near_root_lem}
 use Rattle.spectrum.specs.Transform.{square}
-use Rattle.path.specs.Steps.{larger, squares, rooted, Rooted, modulus_of, Modulus}
+use Rattle.path.specs.Steps.{squares, rooted, Rooted, modulus_of, Modulus}
 use Rattle.path.proofs.Squares.{squared}
 
 -- re and im, Z times as large, have the first digits a and c before 33 more; the root of (a ^ 2 + c ^ 2) / W is s, and s T / Z is r
@@ -120,11 +120,20 @@ pub record Shown (re im z : ℕ) : Type 0 where
   pub imaginary : im * 2 ^ z < 2 ^ 64
   pub first : (2 ^ 63 ≤ re * 2 ^ z) ⊎ (2 ^ 63 ≤ im * 2 ^ z)
 
-pub shown : (re im : ℕ) → re < 2 ^ 64 → im < 2 ^ 64 → 0 < larger re im → Shown re im (count_leading_zeros 64 (larger re im))
-unfolding larger
+pub shown : (re im : ℕ) → re < 2 ^ 64 → im < 2 ^ 64 → 0 < max re im → Shown re im (count_leading_zeros 64 (max re im))
 shown re im a b pos = elim (le-or-lt im re) [
-  | inl l ↦ rw (le-ltb re im l) (let p = placed re (rw (le-ltb re im l) at pos) a in record { small = p.small; real = p.high; imaginary = lt_of_le_of_lt (mul-le-mul_right (2 ^ count_leading_zeros 64 re) l) p.high; first = inl p.low })
-  | inr l ↦ rw (lt-ltb re im l) (let p = placed im (rw (lt-ltb re im l) at pos) b in record { small = p.small; real = lt_of_le_of_lt (mul-le-mul_right (2 ^ count_leading_zeros 64 im) (less l)) p.high; imaginary = p.high; first = inr p.low })
+  | inl l ↦ rw (max-eq_left l) (let p = placed re (rw (max-eq_left l) at pos) a in record {
+    small = p.small;
+    real = p.high;
+    imaginary = lt_of_le_of_lt (mul-le-mul_right (2 ^ count_leading_zeros 64 re) l) p.high;
+    first = inl p.low;
+  })
+  | inr l ↦ rw (max-eq_right (less l)) (let p = placed im (rw (max-eq_right (less l)) at pos) b in record {
+    small = p.small;
+    real = lt_of_le_of_lt (mul-le-mul_right (2 ^ count_leading_zeros 64 im) (less l)) p.high;
+    imaginary = p.high;
+    first = inr p.low;
+  })
 ]
   where
     less : re < im → re ≤ im
@@ -267,39 +276,22 @@ module _ (n z s : ℕ) where
       two g = omega arith
 
 -- ---- the modulus: of nothing it is nothing
-larger_real : (re im : ℕ) → larger re im ≡ 0 → re ≡ 0
-unfolding larger
-larger_real re im h = elim (le-or-lt im re) [ inl l ↦ rw (le-ltb re im l) at h | inr l ↦ absurd (under l (rw (lt-ltb re im l) at h)) ]
-  where
-    under : re < im → im ≡ 0 → ⊥
-    under l g = omega arith
-
-larger_imaginary : (re im : ℕ) → larger re im ≡ 0 → im ≡ 0
-unfolding larger
-larger_imaginary re im h = elim (le-or-lt im re) [ inl l ↦ less l (rw (le-ltb re im l) at h) | inr l ↦ absurd (under l (rw (lt-ltb re im l) at h)) ]
-  where
-    less : im ≤ re → re ≡ 0 → im ≡ 0
-    less l g = omega arith
-
-    under : re < im → im ≡ 0 → ⊥
-    under l g = omega arith
-
-pub modulus_none : (re im m : ℕ) → m ≡ larger re im → m ≡ 0 → (0 ≡ modulus_of re im) × Modulus re im 0
+pub modulus_none : (re im m : ℕ) → m ≡ max re im → m ≡ 0 → (0 ≡ modulus_of re im) × Modulus re im 0
 unfolding modulus_of
-modulus_none re im m e z = (rw (eq-eqb (larger re im) 0 (sym e ∙ z)) refl, both (larger_real re im (sym e ∙ z)) (larger_imaginary re im (sym e ∙ z)))
+modulus_none re im m e z = (rw (eq-eqb (max re im) 0 (sym e ∙ z)) refl, both (omega (arith, le-max_left re im)) (omega (arith, le-max_right re im)))
   where
     both : re ≡ 0 → im ≡ 0 → Modulus re im 0
     both a b = rw (a, b) (record { low = lit≤ tt; high = lit≤ tt; few = zero-le })
 
 -- and of anything else it is the root
-module _ (re im m : ℕ) (largest : m ≡ larger re im) (some : ¬ (m ≡ 0)) where
+module _ (re im m : ℕ) (largest : m ≡ max re im) (some : ¬ (m ≡ 0)) where
   modulus_is : modulus_of re im ≡ rooted (square (re * 2 ^ count_leading_zeros 64 m / 8589934592) + square (im * 2 ^ count_leading_zeros 64 m / 8589934592)) (count_leading_zeros 64 m)
   unfolding modulus_of squares
   modulus_is = rw (sym largest, ne_eqb m 0 some) refl
 
   module _ (lr : re ≤ 2 ^ 60 + 2 ^ 10) (li : im ≤ 2 ^ 60 + 2 ^ 10) where
     pub places : Shown re im (count_leading_zeros 64 m)
-    places = rw largest (shown re im (omega arith) (omega arith) (above (larger re im) (λ z. some (largest ∙ z))))
+    places = rw largest (shown re im (omega arith) (omega arith) (above (max re im) (λ z. some (largest ∙ z))))
       where
         above : (x : ℕ) → ¬ (x ≡ 0) → 0 < x
         above x h = elim (eq-zero-or-pos x) [ inl z ↦ absurd (h z) | inr p ↦ p ]

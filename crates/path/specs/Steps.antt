@@ -1,5 +1,5 @@
 -- What the program computes on the path, as whole numbers. A reader of the promise need not read this. Definitions only.
-use Rattle.std.specs.Prelude.{◌≡◌, cond, List, ℕ, suc, ◌+◌, ◌-◌, ◌*◌, ◌/◌, ◌%◌, ◌^◌, ◌≤◌, ◌<◌, eqb, leb, ltb, length, get_or, Float}
+use Rattle.std.specs.Prelude.{◌≡◌, cond, List, ℕ, suc, ◌+◌, ◌-◌, ◌*◌, ◌/◌, ◌%◌, ◌^◌, ◌≤◌, ◌<◌, max, eqb, leb, length, get_or, Float}
 use Rattle.std.specs.Int.Count.{count_leading_zeros}
 use Rattle.std.specs.Float.{binary32}
 use Rattle.std.specs.Float.Ieee.{of_bits}
@@ -28,9 +28,13 @@ pub record Products (xs ws : List Float) (ys : List ℕ) : Type 0 where
 abbrev pub size_of : ℕ → ℕ
 size_of v = (v - unit) + (unit - v)
 
--- the larger of two
-unfoldable pub larger : ℕ → ℕ → ℕ
-larger a b = cond (ltb a b) b a
+-- a part's size is at most this
+abbrev pub part_most : ℕ
+part_most = 2 ^ 60 + 2 ^ 10
+
+-- a block whose words are such
+pub record Parts (r : List ℕ) : Type 0 where
+  pub few : (i : ℕ) → i < 128 → size_of (get_or r i 0) ≤ part_most
 
 -- √(re ^ 2 + im ^ 2) in units eight times as large: the first 31 digits of both after z places, and a root of 24 digits
 unfoldable pub squares : ℕ → ℕ → ℕ → ℕ
@@ -40,7 +44,7 @@ unfoldable pub rooted : ℕ → ℕ → ℕ
 rooted n z = cond (leb (2 ^ 62) n) (near_root (n / 65536) * 2 ^ 38 / 2 ^ z) (near_root (n / 16384) * 2 ^ 37 / 2 ^ z)
 
 unfoldable pub modulus_of : ℕ → ℕ → ℕ
-modulus_of re im = cond (eqb (larger re im) 0) 0 (rooted (squares re im (count_leading_zeros 64 (larger re im))) (count_leading_zeros 64 (larger re im)))
+modulus_of re im = cond (eqb (max re im) 0) 0 (rooted (squares re im (count_leading_zeros 64 (max re im))) (count_leading_zeros 64 (max re im)))
 
 -- what is known of it where neither part is above 2 ^ 60 + 2 ^ 10: it is √(re ^ 2 + im ^ 2) / 8 within 2 ^ -23 and one unit, and fits
 pub record Modulus (re im r : ℕ) : Type 0 where

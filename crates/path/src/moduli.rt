@@ -1,39 +1,24 @@
 // The sizes of the parts: |X_k| in units of 2^-50.
 
-ghost use Rattle.std.specs.Prelude.{◌≡◌, ℕ, ◌+◌, ◌*◌, ◌/◌, ◌<◌, ◌≤◌, ◌^◌, length, get_or};
-ghost use Rattle.path.specs.Steps.{size_of, larger, rooted, Rooted, modulus_of, Modulus, real_size, imaginary_size, Moduli};
+ghost use Rattle.std.specs.Prelude.{◌≡◌, ℕ, ◌+◌, ◌*◌, ◌/◌, ◌<◌, ◌≤◌, ◌^◌, get_or};
+ghost use Rattle.path.specs.Steps.{rooted, Rooted, modulus_of, Modulus, real_size, imaginary_size, Moduli, part_most, Parts};
 
-const UNIT: u64 = 0x2000_0000_0000_0000;
+use spectrum::words::UNIT;
 
-// The size of a word's value.
-fn size(v: u64) -> u64
-    ensures { result ≡ size_of v }
-{
-    if v < UNIT {
-        return UNIT - v;
-    }
-    v - UNIT
-}
+// From here on a sum of squares has 63 digits.
+const LONG: u64 = 0x4000_0000_0000_0000;
 
-// The larger of two.
-fn larger(a: u64, b: u64) -> u64
-    ensures { result ≡ larger a b }
-{
-    if a < b {
-        return b;
-    }
-    a
-}
-
-// The root of the squares n of parts that were shifted up by z places.
+// The root of the squares n of parts that were shifted up by z places. Two cuts by known shifts: one by a shift that is
+// computed takes the chip more instructions.
 fn rooted(n: u64, z: u32) -> u64
     requires { (2 ^ 60 ≤ n) × (n < 2 ^ 63) × (z < 64) }
     ensures { (result ≡ rooted n z) × Rooted n z result }
 {
-    if 4611686018427387904 <= n {
-        return (roots::nearest_root(n / 65536) << 38) >> z;
+    if LONG <= n {
+        (roots::nearest_root(n / 65536) << 38) >> z
+    } else {
+        (roots::nearest_root(n / 16384) << 37) >> z
     }
-    (roots::nearest_root(n / 16384) << 37) >> z
 }
 
 // The first 31 digits of x, shifted up by z places.
@@ -44,40 +29,53 @@ fn first(x: u64, z: u32) -> u64
     (x << z) / 8589934592
 }
 
-// The root of re^2 + im^2, in units eight times as large.
-fn modulus(re: u64, im: u64) -> u64
-    requires { (re ≤ 2 ^ 60 + 2 ^ 10) × (im ≤ 2 ^ 60 + 2 ^ 10) }
-    ensures { (result ≡ modulus_of re im) × Modulus re im result }
-{
-    let m = larger(re, im);
-    if m == 0 {
-        return 0;
-    }
-    let z = u64::leading_zeros(m);
-    let a = first(re, z);
-    let b = first(im, z);
-    rooted(a * a + b * b, z)
+// The sizes of the real and of the imaginary part of an X_k.
+#[derive(Clone, Copy, Debug, PartialEq, Eq)]
+struct Part {
+    re: u64,
+    im: u64,
+    ghost real_fits: { re ≤ part_most },
+    ghost imaginary_fits: { im ≤ part_most },
 }
 
-// That of the part k of a block; the first and the last have no imaginary part.
-fn bin(r: &[u64], k: usize) -> u64
-    requires { (length r.now ≡ 128) × (k ≤ 64) × ((i : ℕ) → i < 128 → size_of (get_or r.now i 0) ≤ 2 ^ 60 + 2 ^ 10) }
-    ensures { (result ≡ modulus_of (real_size r.now k) (imaginary_size r.now k)) × Modulus (real_size r.now k) (imaginary_size r.now k) result }
-{
-    if k % 64 == 0 {
-        return modulus(size(r[k]), 0);
+impl Part {
+    // The part k of a block; the first and the last have no imaginary part.
+    fn of(r: &[u64; 128], k: usize) -> Part
+        requires { (k ≤ 64) × Parts r.now }
+        ensures { (result.re ≡ real_size r.now k) × (result.im ≡ imaginary_size r.now k) }
+    {
+        Part {
+            re: r[k].abs_diff(UNIT),
+            im: if k % 64 == 0 {
+                0
+            } else {
+                r[128 - k].abs_diff(UNIT)
+            },
+        }
     }
-    modulus(size(r[k]), size(r[128 - k]))
+
+    // The root of re^2 + im^2, in units eight times as large.
+    fn modulus(self) -> u64
+        ensures { (result ≡ modulus_of self.re self.im) × Modulus self.re self.im result }
+    {
+        let m = self.re.max(self.im);
+        if m == 0 {
+            return 0;
+        }
+        let z = m.leading_zeros();
+        let a = first(self.re, z);
+        let b = first(self.im, z);
+        rooted(a * a + b * b, z)
+    }
 }
 
-// Those of all of them, from the front of y on.
-pub fn moduli(r: &[u64], y: &mut [u64])
-    requires { (length r.now ≡ 128) × (length y.old ≡ 128) × ((i : ℕ) → i < 128 → size_of (get_or r.now i 0) ≤ 2 ^ 60 + 2 ^ 10) }
+// The moduli of all of them, from the front of y on: the products there are done with, so that no third list is needed.
+// By number: a part k is made of the words k and 128 - k.
+pub fn moduli(r: &[u64; 128], y: &mut [u64; 128])
+    requires { Parts r.now }
     ensures { Moduli r.now y.new }
 {
-    let mut k = 0;
-    while k < 65 {
-        y[k] = bin(r, k);
-        k += 1;
+    for k in 0..65 {
+        y[k] = Part::of(r, k).modulus();
     }
 }

@@ -15,3 +15,4 @@ pub mod NaturalReduction
 pub mod NaturalPromise
 pub mod Base
 pub mod Fixed
+pub mod Either

@@ -4,3 +4,4 @@ pub mod Base
 pub mod Raised
 pub mod Value
 pub mod Fixed
+pub mod Bases

@@ -1,20 +1,20 @@
-// Powers of either base in fixed point, before any rounding to a float: an argument, of whose fraction are the digits, and whose whole part is the exponent.
+// Powers of either base in fixed point, before any rounding to a float: an argument, of whose fraction are the digits,
+// and whose whole part is the exponent.
 
 ghost use Rattle.std.specs.Prelude.{◌≡◌, ◌+◌, ◌/◌, ◌%◌, ◌^◌};
 ghost use Rattle.powers.specs.Raised.{raised};
 ghost use Rattle.powers.specs.Exp.{Accepts};
 ghost use Rattle.powers.specs.Fixed.{argument_of};
 
-// x + 126, or x log2 e + 126 where the base is e, as a whole number of 2^-32; x from -87 to 88.
-pub fn argument(natural: bool, x: f32) -> u64
+use super::bases::Base;
+
+// x + 126, or x log2 e + 126 where the base is e, as a whole number of 2^-32; x from -87 to 88. A number and no struct
+// of digits and exponent, which cost 24 instructions with two bases (docs/DECISIONS.md, "One softmax for two bases").
+pub fn argument<B: Base>(x: f32) -> u64
     requires { Accepts x }
-    ensures { result ≡ argument_of natural x }
+    ensures { result ≡ argument_of B.base x }
 {
-    if natural {
-        super::natural::cut_off(x)
-    } else {
-        super::cut_off(x)
-    }
+    B::argument(x)
 }
 
 // The 32 digits q behind the first of the power (2^32 + q) * 2^(e - 158).

@@ -1,5 +1,4 @@
 pub mod Least
-pub mod Steps
 pub mod Range
 pub mod SquareRoot
 pub mod ReciprocalRoot

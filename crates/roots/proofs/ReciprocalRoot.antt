@@ -1,14 +1,17 @@
 -- The reciprocal root: the whole number nearest to the root of a power of two over the significand of x, put together with minus half the exponent, is the float
 -- nearest to 1 / √x. Assumes nothing.
+use Rattle.std.specs.Prelude.{Ok, Err}
 use Rattle.std.proofs.Common.{◌≡◌, ℕ, zero, suc, ◌+◌, ◌-◌, ◌*◌, ◌/◌, ◌%◌, ◌^◌, ◌<◌, ◌≤◌, Bool, true, false, leb, sym, refl, ap, ◌∙◌, subst, inl, inr, zero-le, le_trans, lt_trans, le_of_eq, lt_of_lt_of_le, lt_of_le_of_lt, le_of_lt, mul-le-mul_right, mod-eq_of_lt, mul_assoc, mul-le-mul, eq-or-lt_of_le, mul-le-mul_left, mul-lt-mul_of_pos_right, mul-pos, mul-zero, mul_right_comm, not-le_of_lt, arith, pow_pos, pow_mono, pow-add, le-leb, leb-false, leb-true}
 use native.Mathlib.Nat.{mul-lt-mul_of_pos_left, pow-succ'}
 use borrow.Author.Tests.{lt-leb}
 use lib.Ieee.{Float, binary32, of_bits}
 use Rattle.units.specs.Units.{mag, P, Number, Le}
+use Rattle.units.specs.declared.refusal.Refusal.TheVariants.{OutOfRange}
 use Rattle.units.specs.Answers.{Ends, float_bits}
+use Rattle.units.specs.Refusals.{Gives}
 use Rattle.units.proofs.Naturals.{le-or-lt, proportion_le, proportion_lt}
 use Rattle.units.proofs.Signs.{plus_of_lem, minus_of_lem}
-use Rattle.units.proofs.Answers.{given, declined, written, untouched}
+use Rattle.units.proofs.Answers.{given, declined, untouched, err}
 use Rattle.units.proofs.Bits.{Is, put_positive, no_nan_positive}
 use Rattle.units.proofs.Patterns.{pattern_back}
 use Rattle.units.specs.Units.{Positive}
@@ -333,15 +336,20 @@ refused x n = record {
 }
 
 -- ---- how the call ends
-
--- the pattern that is written is the value's
-pub success : (x : Float) {before after : ℕ} → Positive x → after ≡ rsqrt_bits x → Ends float_bits (Rsqrt x) 0 before after
+pub success : (x : Float) {bits : ℕ} → Positive x → bits ≡ rsqrt_bits x → Gives float_bits (Rsqrt x) (Ok bits)
 unfolding rsqrt_of
-success x p e = written (rsqrt_of x) (promised x p) (e ∙ sym (pattern_back _ (omega (arith, (accepted x p).0)) (no_nan_positive _ (accepted x p).0)))
+success x p e = record {
+  result = rsqrt_of x;
+  promise = promised x p;
+  given = e ∙ sym (pattern_back _ (omega (arith, (accepted x p).0)) (no_nan_positive _ (accepted x p).0));
+}
 
--- nothing is written
+-- of any other x nothing is written
 pub refusal : (x : Float) {before : ℕ} → ¬ Positive x → Ends float_bits (Rsqrt x) 1 before before
 refusal x n = untouched 1 (rsqrt_of x) (λ z. omega arith) (refused x n)
+
+pub declines : (x : Float) → ¬ Positive x → Gives float_bits (Rsqrt x) (Err OutOfRange)
+declines x n = err OutOfRange (refusal x {before = 0} n)
 
 -- document 01's bound, relative 2 ^ -22, follows from the promise
 pub as_asked : (x r : Float) → NearRecipRoot rsqrt_error_num rsqrt_error_den x r → NearRecipRoot 1 (2 ^ 22) x r

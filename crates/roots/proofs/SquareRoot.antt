@@ -1,13 +1,16 @@
 -- The square root: the whole number nearest to the root of 46 to 48 digits of x, put together with half the exponent, is the float nearest to the root of x.
 -- Assumes nothing.
+use Rattle.std.specs.Prelude.{Ok, Err}
 use Rattle.std.proofs.Common.{◌≡◌, ℕ, zero, suc, ◌+◌, ◌-◌, ◌*◌, ◌^◌, ◌<◌, ◌≤◌, false, leb, sym, refl, ap, ◌∙◌, subst, inl, inr, zero-le, le_trans, lt_trans, le_of_eq, lt_of_lt_of_le, lt_of_le_of_lt, le_of_lt, mul-le-mul_right, mul_assoc, mul-le-mul, mul-le-mul_left, mul-lt-mul_of_pos_right, mul-pos, zero-mul, not-le_of_lt, arith, pow_pos, pow_mono, pow-add, eq-eqb, ne_eqb, le-leb}
 use borrow.Author.Tests.{lt-leb}
-use lib.Ieee.{Float, binary32, of_bits, to_bits}
+use lib.Ieee.{Float, binary32, of_bits}
 use Rattle.units.specs.Units.{mag, P, N, Number, Le}
 use Rattle.units.proofs.Naturals.{le-or-lt}
+use Rattle.units.specs.declared.refusal.Refusal.TheVariants.{OutOfRange}
 use Rattle.units.specs.Answers.{Ends, float_bits}
+use Rattle.units.specs.Refusals.{Gives}
 use Rattle.units.proofs.Signs.{size-sum, sign_plus, minus_of_lem}
-use Rattle.units.proofs.Answers.{given, declined, written, untouched}
+use Rattle.units.proofs.Answers.{given, declined, untouched, err}
 use Rattle.units.proofs.Bits.{Is, put_positive, no_nan_positive}
 use Rattle.units.proofs.Patterns.{pattern_back}
 use Rattle.units.specs.Units.{Positive}
@@ -253,17 +256,22 @@ refused x n = record {
 }
 
 -- ---- how the call ends
+gives : (x : Float) {bits : ℕ} → Accepts x → bits ≡ float_bits (sqrt_of x) → Gives float_bits (Sqrt x) (Ok bits)
+gives x a e = record { result = sqrt_of x; promise = promised x a; given = e }
 
--- a zero's own pattern is written
-pub success_zero : (x : Float) {before after : ℕ} → Number x → mag x ≡ 0 → after ≡ to_bits binary32 x → Ends float_bits (Sqrt x) 0 before after
-success_zero x n z e = written (sqrt_of x) (promised x (record { number = n; at_least_zero = omega (arith, size-sum x) })) (rw (sqrt_zero x z) e)
+-- of a zero its own pattern
+pub success_zero : (x : Float) {bits : ℕ} → Number x → mag x ≡ 0 → bits ≡ float_bits x → Gives float_bits (Sqrt x) (Ok bits)
+success_zero x n z e = gives x (record { number = n; at_least_zero = omega (arith, size-sum x) }) (rw (sqrt_zero x z) e)
 
 -- the pattern of the root
-pub success : (x : Float) {before after : ℕ} → Positive x → after ≡ sqrt_bits x → Ends float_bits (Sqrt x) 0 before after
+pub success : (x : Float) {bits : ℕ} → Positive x → bits ≡ sqrt_bits x → Gives float_bits (Sqrt x) (Ok bits)
 success x p e =
-    written (sqrt_of x) (promised x (record { number = p.number; at_least_zero = minus_of_lem x p.sign }))
+    gives x (record { number = p.number; at_least_zero = minus_of_lem x p.sign })
     (rw (sqrt_above x p) (e ∙ sym (pattern_back _ (omega (arith, (sqrt_positive x p).0)) (no_nan_positive _ (sqrt_positive x p).0))))
 
--- nothing is written
+-- of any other x nothing is written
 pub refusal : (x : Float) {before : ℕ} → ¬ Accepts x → Ends float_bits (Sqrt x) 1 before before
 refusal x n = untouched 1 (sqrt_of x) (λ z. omega arith) (refused x n)
+
+pub declines : (x : Float) → ¬ Accepts x → Gives float_bits (Sqrt x) (Err OutOfRange)
+declines x n = err OutOfRange (refusal x {before = 0} n)

@@ -3,18 +3,19 @@ use mathlib.Core.Path.{◌≡◌, refl, sym, ap, ap₂, ◌∙◌, subst}
 use mathlib.Core.Logic.{inl, inr}
 use mathlib.Core.List.{List, [], ◌∷◌, ◌++◌}
 use Prim.Native.Nat.{ℕ, zero, suc, ◌+◌, ◌-◌, ◌*◌, ◌/◌, ◌^◌, ◌≤◌, ◌<◌}
-use native.Mathlib.Nat.{pow-suc, le_of_suc-le-suc, not-suc-le-zero, mul-le-mul_left, mul-le-mul_right, le_trans}
+use native.Mathlib.Nat.{pow-suc, le_of_suc-le-suc, not-suc-le-zero, mul-le-mul_left, le_trans}
 use native.Mathlib.Omega.{arith}
 use lib.Dec.{T, leb, leb→le}
 use lib.Pow.{pow_pos, pow_mono}
 use lib.ListN.{length, get_or, take, drop, length-drop, get_or-eq_default, get_or-append}
-use lib.Seq.{length_front, length-take-le, get_or-take, get_or-append-add}
+use lib.Seq.{length_front, length-take-le, get_or-take}
 use borrow.Rule.Slice.PartMut.{mid_of, put_mid, same_len_mid}
 use Rattle.units.proofs.Naturals.{le-or-lt}
 use Rattle.spectrum.specs.Table.{unit}
 use Rattle.spectrum.specs.Words.{value_of, Inside, Small, Four, Combined, Filled, four, halves, Fillable, FilledWith}
 use Rattle.spectrum.proofs.Tests.{all, at}
 use Rattle.spectrum.proofs.Differences as D
+use Rattle.spectrum.proofs.Stores.{placed}
 use Rattle.spectrum.proofs.Combining.{moved}
 use Rattle.spectrum.proofs.Filling.{loss, filled, sizes}
 
@@ -58,9 +59,7 @@ module _ (l₀ l₁ l₂ : List ℕ) (h : ℕ) (fits : h ≤ length l₀) (e₁ 
         ∙ get_or-take h once i 0 l ∙ get_or-append l₁ (drop h l₀) 0 i (omega (arith, first_length))
 
     pub second_half : (i : ℕ) → i < length l₂ → get_or twice (h + i) 0 ≡ get_or l₂ i 0
-    second_half i l =
-        ap (λ (n : ℕ). get_or twice (n + i) 0) (sym taken) ∙ get_or-append-add (take h once) (l₂ ++ drop (length once - h) (drop h once)) i 0
-        ∙ get_or-append l₂ (drop (length once - h) (drop h once)) 0 i l
+    second_half i l = placed h (length once - h) once l₂ (omega (arith, once_length)) i l
 
 -- ---- the words that are read, with any word beyond the end
 pub within : (l : List ℕ) (i d d' : ℕ) → i < length l → get_or l i d ≡ get_or l i d'
@@ -239,36 +238,6 @@ rest_half l s f = same (2 ^ s) f
   where
     same : (x : ℕ) → length l ≡ 4 * x → length l - length l / 2 ≡ length l / 2
     same x f = omega arith
-
--- ---- strides
-pub stride_of : {y : List ℕ} {off st n : ℕ} → Fillable y off st n → n ≡ 4 → st ≡ 32
-stride_of {st = st} {n = n} f e = one (2 ^ f.s) f.size f.apart
-  where
-    one : (x : ℕ) → n ≡ 4 * x → x * st ≡ 32 → st ≡ 32
-    one x h g = omega (arith, ap (λ (z : ℕ). z * st) (unit_of x h))
-      where
-        unit_of : (x : ℕ) → n ≡ 4 * x → x ≡ 1
-        unit_of x h = omega arith
-
-pub stride_most : {y : List ℕ} {off st n : ℕ} → Fillable y off st n → st ≤ 32
-stride_most {st = st} f = omega (arith, mul-le-mul_right st (pow_pos f.s), f.apart)
-
--- a block has at most 128 words
-pub quarter_most : (g st : ℕ) → g * st ≡ 32 → g ≤ 32
-quarter_most g zero e = absurd (omega arith)
-quarter_most g (suc st) e = omega arith
-
-pub words_most : {y : List ℕ} {off st n : ℕ} → Fillable y off st n → n ≤ 128
-words_most {st = st} f = omega (arith, quarter_most (2 ^ f.s) st f.apart, f.size)
-
-pub some_words : (l : List ℕ) (x : ℕ) → length l ≡ 8 * x → 0 < x → 1 ≤ length l / 2 / 2
-some_words l x e p = omega arith
-
-pub around : (l : List ℕ) (x st : ℕ) → length l ≡ 8 * x → x * (2 * st) ≡ 32 → length l / 2 / 2 * st ≡ 32
-around l x st e f = omega (arith, ap (λ (z : ℕ). z * st) (quarter x e))
-  where
-    quarter : (x : ℕ) → length l ≡ 8 * x → length l / 2 / 2 ≡ 2 * x
-    quarter x e = omega arith
 
 pub four_times : (l : List ℕ) (x : ℕ) → length l ≡ 8 * x → length l ≡ 4 * (length l / 2 / 2)
 four_times l x e = omega arith

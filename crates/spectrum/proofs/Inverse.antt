@@ -1,4 +1,4 @@
--- The transform of numbers that are not all small is not all small: halving undone, level by level, down to the values asTheyAre. Assumes nothing.
+-- The transform of numbers that are not all small is not all small: halving undone, level by level, down to the values themselves. Assumes nothing.
 use mathlib.Core.Path.{◌≡◌, refl, ap, ◌∙◌, subst}
 use mathlib.Core.Logic.{inl, inr, ◌⊎◌}
 use mathlib.Core.Bool.{Bool}

@@ -1,10 +1,8 @@
 -- A float as a word, and the largest pattern of a frame.
 use mathlib.Core.Path.{◌≡◌, refl, ap, ◌∙◌}
-use mathlib.Core.Logic.{inl, inr, ◌⊎◌}
 use mathlib.Core.Bool.{Bool, true, false, cond, not}
-use mathlib.Core.List.{List}
 use Prim.Native.Nat.{ℕ, ◌+◌, ◌-◌, ◌*◌, ◌/◌, ◌%◌, ◌^◌, ◌≤◌, ◌<◌}
-use native.Mathlib.Nat.{le_trans, le_of_eq, lt_of_le_of_lt, eq-or-lt_of_le, mul_comm, mul-le-mul_right, mul-lt-mul_of_pos_right, lt_of_lt_of_le, div-lt_iff_lt-mul}
+use native.Mathlib.Nat.{le_trans, le_of_eq, lt_of_le_of_lt, mul_comm, mul-le-mul_right, mul-lt-mul_of_pos_right, lt_of_lt_of_le, div-lt_iff_lt-mul}
 use native.Mathlib.Omega.{arith}
 use lib.Pow.{pow-add, pow_pos}
 use lib.Dec.{T}
@@ -13,8 +11,7 @@ use Rattle.units.specs.Units.{mag, negative, Number}
 use Rattle.units.proofs.Naturals.{pow_back_lt}
 use Rattle.units.proofs.Patterns.{packed_of}
 use Rattle.spectrum.specs.Table.{unit}
-use Rattle.spectrum.specs.Transform.{at}
-use Rattle.spectrum.specs.Floats.{place_in, size_in, size_bits, Largest, word_of}
+use Rattle.spectrum.specs.Floats.{place_in, size_in, word_of}
 use Rattle.spectrum.proofs.Sizes.{high_digits}
 
 -- ---- a number is no NaN
@@ -63,29 +60,3 @@ place_most b e l h = below (pow_back_lt (23 + place_in b) e (lt_of_le_of_lt (le_
 
     below : 23 + place_in b < e → place_in b ≤ e
     below g = omega arith
-
--- ---- the largest
-pub largest_none : (xs : List Float) → Largest xs 0 0
-largest_none xs = record { most = λ i l. absurd (omega arith); there = λ n. absurd (n refl) }
-
-module _ (xs : List Float) (n m : ℕ) (h : Largest xs n m) where
-  last_or : {i : ℕ} → i < n + 1 → (i ≡ n) ⊎ (i < n)
-  last_or l = eq-or-lt_of_le (below l)
-    where
-      below : {i : ℕ} → i < n + 1 → i ≤ n
-      below l = omega arith
-
-  pub largest_new : m < size_bits (at xs n) → Largest xs (n + 1) (size_bits (at xs n))
-  largest_new l = record {
-    most = λ i k. elim (last_or k) [ inl e ↦ le_of_eq (ap (λ (j : ℕ). size_bits (at xs j)) e) | inr o ↦ le_trans (h.most i o) (less l) ];
-    there = λ z. (n, omega arith, refl);
-  }
-    where
-      less : m < size_bits (at xs n) → m ≤ size_bits (at xs n)
-      less l = omega arith
-
-  pub largest_old : size_bits (at xs n) ≤ m → Largest xs (n + 1) m
-  largest_old l = record {
-    most = λ i k. elim (last_or k) [ inl e ↦ le_trans (le_of_eq (ap (λ (j : ℕ). size_bits (at xs j)) e)) l | inr o ↦ h.most i o ];
-    there = λ z. let w = h.there z in (w.0, omega (arith, w.1), w.2);
-  }

@@ -6,7 +6,7 @@ use Prim.Native.Nat.{ℕ, ◌+◌, ◌-◌, ◌*◌, ◌/◌, ◌^◌, ◌≤◌
 use native.Mathlib.Nat.{le_trans, le_of_eq, lt_of_le_of_lt, lt_of_lt_of_le, eq-zero-or-pos, mul_assoc, zero-mul, zero-add, mul-le-mul_left, mul-le-mul_right, mul-lt-mul_of_pos_right, lt_of_mul-lt-mul_right, div-lt_iff_lt-mul, div-mul-le_self, lt-div-mul-add}
 use native.Mathlib.Omega.{arith}
 use lib.Pow.{pow-add, pow_pos, pow_mono}
-use lib.Count.{count_leading_zeros, leading_le, leading_length}
+use lib.Count.{count_leading_zeros, leading_length}
 use borrow.Author.Tests.{lt-ltb, le-ltb, le-leb, lt-leb}
 use lib.Ieee.{binary32, of_bits}
 use Rattle.units.proofs.Naturals.{le-or-lt, pow_back_lt}
@@ -68,9 +68,6 @@ module _ (n e : ℕ) (few : n < 2 ^ 60) (high : e ≤ 269) where
           lt_of_le_of_lt (le_trans (mul-le-mul_left n (pow_mono {i = e} {j = z + 12} (omega arith))) (le_of_eq (ap (λ (x : ℕ). n * x) (pow-add 2 z 12) ∙ sym (mul_assoc n (2 ^ z) (2 ^ 12)))))
           (lt_of_lt_of_le (mul-lt-mul_of_pos_right (placed n p (lt_of_lt_of_le few (pow_mono {i = 60} {j = 64} (omega arith)))).high (pow_pos 12)) (le_of_eq (sym (pow-add 2 64 12))))
     ]
-
-    pub below_76 : e ≤ 76
-    below_76 = omega (arith, leading_le 64 n)
 
     pub bits_cut : e < 53 → size_bits_of e n ≡ half_up (n / 2 ^ (52 - e))
     unfolding size_bits_of

@@ -1,12 +1,12 @@
--- What a list holds after the stores of a butterfly, and of the words that take no turn.
-use mathlib.Core.Path.{◌≡◌, ap, ◌∙◌}
-use mathlib.Core.List.{List}
-use Prim.Native.Nat.{ℕ, ◌+◌, ◌-◌, ◌*◌, ◌≤◌, ◌<◌}
+-- What a list holds after stores, and after a part of it was lent: the patterns of words. Assumes nothing.
+use mathlib.Core.Path.{◌≡◌, sym, ap, ◌∙◌}
+use mathlib.Core.List.{List, ◌++◌}
+use Prim.Native.Nat.{ℕ, zero, suc, ◌+◌, ◌-◌, ◌≤◌, ◌<◌}
 use native.Mathlib.Omega.{arith}
-use lib.ListN.{length, get_or, set}
-use lib.Seq.{get_or-set_same, get_or-set_other, lt-length-set}
-use Rattle.spectrum.specs.Table.{unit}
-use Rattle.spectrum.specs.Words.{Butterfly, Winged, Straight}
+use lib.ListN.{length, get_or, set, take, drop, length-set, length-drop, get_or-append}
+use lib.Seq.{get_or-set_same, get_or-set_other, length-take-le, get_or-append-add}
+use borrow.Rule.Slice.PartMut.{mid_of, put_mid, post_of, same_len_mid}
+use Rattle.spectrum.specs.Floats.{bits_of, StoredImaginary}
 
 -- a store elsewhere is past over
 past : (l : List ℕ) (i j v : ℕ) → ¬ (j ≡ i) → get_or (set l i v) j 0 ≡ get_or l j 0
@@ -15,99 +15,42 @@ past l i j v n = get_or-set_other l i j v 0 n
 here : (l : List ℕ) (i v : ℕ) → i < length l → get_or (set l i v) i 0 ≡ v
 here l i v h = get_or-set_same l i v 0 h
 
-module _ (l : List ℕ) (g : ℕ) (pos : 1 ≤ g) (as_many : length l ≡ 4 * g) where
-  abbrev l₁ : ℕ → List ℕ
-  l₁ a = set l 0 a
+-- ---- a part of a list that was lent and came back as other words
+pub placed : (h k : ℕ) (xs ys : List ℕ) → h ≤ length xs → (i : ℕ) → i < length ys
+    → get_or (put_mid h k xs ys) (h + i) 0 ≡ get_or ys i 0
+placed h k xs ys fits i l =
+    ap (λ (n : ℕ). get_or (put_mid h k xs ys) (n + i) 0) (sym (length-take-le h xs fits))
+    ∙ get_or-append-add (take h xs) (ys ++ post_of h k xs) i 0 ∙ get_or-append ys (post_of h k xs) 0 i l
 
-  abbrev l₂ : ℕ → ℕ → List ℕ
-  l₂ a b = set (l₁ a) (2 * g) b
+-- ---- stores of patterns, each of the word that a call found
+-- where every such call finds the word w
+pub stored_as : {Found : ℕ → Type 0} {b : ℕ} (e w : ℕ) → ((v : ℕ) → Found v → v ≡ w)
+    → (v : ℕ) × Found v × (b ≡ bits_of e v) → b ≡ bits_of e w
+stored_as e w same (v, found, pattern) = pattern ∙ ap (bits_of e) (same v found)
 
-  pub straight_in : (a : ℕ) → 2 * g < length (l₁ a)
-  straight_in a = lt-length-set l 0 a (omega arith)
+-- all but the ends, and then these
+pub between_ends : (e : ℕ) (words im out : List ℕ) → length im ≡ 65 → length out ≡ length (mid_of 1 63 im)
+    → ((i : ℕ) → i < 63 → get_or out i 0 ≡ bits_of e (get_or words (127 - i) 0))
+    → StoredImaginary e words (set (set (put_mid 1 63 im out) 0 0) 64 0)
+between_ends e words im out a b stored = record {
+  as_many = length-set (set all 0 0) 64 0 ∙ length-set all 0 0 ∙ whole;
+  each = λ k l h. past (set all 0 0) 64 k 0 (λ z. omega arith) ∙ past all 0 k 0 (λ z. omega arith) ∙ inner k l h;
+  first = past (set all 0 0) 64 0 0 (λ z. omega arith) ∙ here all 0 0 (omega (arith, whole));
+  last = here (set all 0 0) 64 0 (omega (arith, whole, length-set all 0 0));
+}
+  where
+    all : List ℕ
+    all = put_mid 1 63 im out
 
-  pub straight_in_2 : (a b : ℕ) → 3 * g < length (l₂ a b)
-  straight_in_2 a b = lt-length-set (l₁ a) (2 * g) b (lt-length-set l 0 a (omega arith))
+    whole : length all ≡ 65
+    whole = same_len_mid 1 63 im out b ∙ a
 
-  pub straight : (a b v : ℕ) → a + unit ≡ get_or l 0 0 + get_or l (2 * g) 0 → b + get_or l (2 * g) 0 ≡ get_or l 0 0 + unit → v + get_or l (3 * g) 0 ≡ 2 * unit
-      → Straight g (λ i. get_or l i 0) (λ i. get_or (set (l₂ a b) (3 * g) v) i 0)
-  straight a b v ha hb hv = record {
-    first = ap (λ (x : ℕ). x + unit) (past (l₂ a b) (3 * g) 0 v (λ e. omega arith) ∙ past (l₁ a) (2 * g) 0 b (λ e. omega arith) ∙ here l 0 a (omega arith)) ∙ ha;
-    middle = ap (λ (x : ℕ). x + get_or l (2 * g) 0) (past (l₂ a b) (3 * g) (2 * g) v (λ e. omega arith) ∙ here (l₁ a) (2 * g) b (straight_in a)) ∙ hb;
-    turned = ap (λ (x : ℕ). x + get_or l (3 * g) 0) (here (l₂ a b) (3 * g) v (straight_in_2 a b)) ∙ hv;
-    others = λ i n₀ n₂ n₃. past (l₂ a b) (3 * g) i v n₃ ∙ past (l₁ a) (2 * g) i b n₂ ∙ past l 0 i a n₀;
-  }
+    part : length out ≡ 63
+    part = b ∙ length-take-le 63 (drop 1 im) (omega (arith, length-drop 1 im))
 
-module _ (l : List ℕ) (g st k : ℕ) (low : 1 ≤ k) (high : k < g) (as_many : length l ≡ 4 * g) where
-  abbrev w₁ : ℕ → List ℕ
-  w₁ a = set l k a
-
-  abbrev w₂ : ℕ → ℕ → List ℕ
-  w₂ a b = set (w₁ a) (2 * g - k) b
-
-  abbrev w₃ : ℕ → ℕ → ℕ → List ℕ
-  w₃ a b e = set (w₂ a b) (2 * g + k) e
-
-  pub wing_in : (a : ℕ) → 2 * g - k < length (w₁ a)
-  wing_in a = lt-length-set l k a (omega arith)
-
-  pub wing_in_2 : (a b : ℕ) → 2 * g + k < length (w₂ a b)
-  wing_in_2 a b = lt-length-set (w₁ a) (2 * g - k) b (lt-length-set l k a (omega arith))
-
-  pub wing_in_3 : (a b e : ℕ) → 4 * g - k < length (w₃ a b e)
-  wing_in_3 a b e = lt-length-set (w₂ a b) (2 * g + k) e (lt-length-set (w₁ a) (2 * g - k) b (lt-length-set l k a (omega arith)))
-
-  module _ (a b e d : ℕ) where
-    abbrev r : ℕ → ℕ
-    r i = get_or (set (w₃ a b e) (4 * g - k) d) i 0
-
-    at_k : r k ≡ a
-    at_k =
-        past (w₃ a b e) (4 * g - k) k d (λ h. omega arith) ∙ past (w₂ a b) (2 * g + k) k e (λ h. omega arith) ∙ past (w₁ a) (2 * g - k) k b (λ h. omega arith)
-        ∙ here l k a (omega arith)
-
-    at_b : r (2 * g - k) ≡ b
-    at_b = past (w₃ a b e) (4 * g - k) (2 * g - k) d (λ h. omega arith) ∙ past (w₂ a b) (2 * g + k) (2 * g - k) e (λ h. omega arith) ∙ here (w₁ a) (2 * g - k) b (wing_in a)
-
-    at_e : r (2 * g + k) ≡ e
-    at_e = past (w₃ a b e) (4 * g - k) (2 * g + k) d (λ h. omega arith) ∙ here (w₂ a b) (2 * g + k) e (wing_in_2 a b)
-
-    at_d : r (4 * g - k) ≡ d
-    at_d = here (w₃ a b e) (4 * g - k) d (wing_in_3 a b e)
-
-    pub winged : Butterfly (k * st) (get_or l k 0) (get_or l (2 * g - k) 0) (get_or l (2 * g + k) 0) (get_or l (4 * g - k) 0) a b e d → Winged g st k (λ i. get_or l i 0) r
-    winged h = record {
-      wings = record {
-        t = h.t;
-        u = h.u;
-        real = h.real;
-        imaginary = h.imaginary;
-        sum_real = omega (arith, at_k, h.sum_real);
-        difference_real = omega (arith, at_b, h.difference_real);
-        sum_imaginary = omega (arith, at_d, h.sum_imaginary);
-        difference_imaginary = omega (arith, at_e, h.difference_imaginary);
-      };
-      others = λ i n n₂ n₃ n₄. past (w₃ a b e) (4 * g - k) i d n₄ ∙ past (w₂ a b) (2 * g + k) i e n₃ ∙ past (w₁ a) (2 * g - k) i b n₂ ∙ past l k i a n;
-    }
-
--- four stores in a row
-module _ (l : List ℕ) (as_many : length l ≡ 4) (a b e d : ℕ) where
-  abbrev s₁ : List ℕ
-  s₁ = set l 0 a
-
-  abbrev s₂ : List ℕ
-  s₂ = set s₁ 1 b
-
-  abbrev s₃ : List ℕ
-  s₃ = set s₂ 2 e
-
-  pub stored_0 : get_or (set s₃ 3 d) 0 0 ≡ a
-  stored_0 = past s₃ 3 0 d (λ h. omega arith) ∙ past s₂ 2 0 e (λ h. omega arith) ∙ past s₁ 1 0 b (λ h. omega arith) ∙ here l 0 a (omega arith)
-
-  pub stored_1 : get_or (set s₃ 3 d) 1 0 ≡ b
-  stored_1 = past s₃ 3 1 d (λ h. omega arith) ∙ past s₂ 2 1 e (λ h. omega arith) ∙ here s₁ 1 b (lt-length-set l 0 a (omega arith))
-
-  pub stored_2 : get_or (set s₃ 3 d) 2 0 ≡ e
-  stored_2 = past s₃ 3 2 d (λ h. omega arith) ∙ here s₂ 2 e (lt-length-set s₁ 1 b (lt-length-set l 0 a (omega arith)))
-
-  pub stored_3 : get_or (set s₃ 3 d) 3 0 ≡ d
-  stored_3 = here s₃ 3 d (lt-length-set s₂ 2 e (lt-length-set s₁ 1 b (lt-length-set l 0 a (omega arith))))
+    inner : (k : ℕ) → 1 ≤ k → k < 64 → get_or all k 0 ≡ bits_of e (get_or words (128 - k) 0)
+    inner zero l h = absurd (omega arith)
+    inner (suc i) l h =
+        let place : suc i ≡ 1 + i = omega arith in
+        let from : 128 - (1 + i) ≡ 127 - i = omega arith in
+        rw (place, from) (placed 1 63 im out (omega arith) i (omega (arith, part)) ∙ stored i (omega arith))

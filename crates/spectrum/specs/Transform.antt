@@ -30,7 +30,7 @@ pub record Accepts (xs : List Float) (nre nim : ℕ) : Type 0 where
 
 -- ---- the exact sums
 -- a table of fractions over u that are within 2 ^ -60 of the cosines and sines of the angles 2 pi j / 128, or j / 32 quarter turns; pi / 2 is known to 2 ^ -62
--- all of them may be as near as one likes, so that what holds of every table holds of the cosines and sines asTheyAre
+-- all of them may be as near as one likes, so that what holds of every table holds of the cosines and sines themselves
 pub record Turns (c s : ℕ → Difference) (u : ℕ) : Type 0 where
   pub positive : 0 < u
   pub q : ℕ

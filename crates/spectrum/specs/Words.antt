@@ -12,10 +12,6 @@ pub record Inside (v : ℕ) : Type 0 where
   pub least : unit ≤ v + (2 ^ 59 + 2 ^ 10)
   pub most : v ≤ unit + (2 ^ 59 + 2 ^ 10)
 
--- 8 times the cosine and the sine of j / 128 turns
-unfoldable pub turn_of : ℕ → List ℕ
-turn_of j = (8 * entry j) ∷ (8 * entry (32 - j)) ∷ []
-
 -- the row of j / 128 turns: 8 times its cosine and its sine, and what takes the offsets out of the two parts of a product
 unfoldable pub row_of : ℕ → List ℕ
 row_of j = (8 * entry j) ∷ (8 * entry (32 - j)) ∷ (2 * unit - (entry j + entry (32 - j))) ∷ (2 * unit + entry (32 - j) - entry j) ∷ []
@@ -23,6 +19,18 @@ row_of j = (8 * entry j) ∷ (8 * entry (32 - j)) ∷ (2 * unit - (entry j + ent
 -- v w / 2 ^ 64, each product of words of 32 digits cut off, and the least of them left out
 unfoldable pub part : ℕ → ℕ → ℕ
 part v w = v / 4294967296 * (w / 4294967296) + v / 4294967296 * (w % 4294967296) / 4294967296 + v % 4294967296 * (w / 4294967296) / 4294967296
+
+-- a word that is within 2 ^ 60 + 2 ^ 12 of 2 ^ 62
+pub record Twice (t : ℕ) : Type 0 where
+  pub least : 2 * unit ≤ t + (2 ^ 60 + 2 ^ 12)
+  pub most : t ≤ 2 * unit + (2 ^ 60 + 2 ^ 12)
+
+-- t + i u is (c - i s) (or + i oi), 2 ^ 62 added to each part, for the cosine c and the sine s of j / 128 turns
+pub record Turned (j or oi t u : ℕ) : Type 0 where
+  pub real : t + (entry j + entry (32 - j)) ≡ part or (8 * entry j) + part oi (8 * entry (32 - j)) + 2 * unit
+  pub imaginary : u + (part or (8 * entry (32 - j)) + entry j) ≡ part oi (8 * entry j) + (2 * unit + entry (32 - j))
+  pub room_real : Twice t
+  pub room_imaginary : Twice u
 
 -- (er + i ei) + (c - i s) (or + i oi) is (a + i d), and (er + i ei) - (c - i s) (or + i oi) is (b - i e), for the cosine c and the sine s of j / 128 turns
 pub record Butterfly (j er ei or oi a b e d : ℕ) : Type 0 where

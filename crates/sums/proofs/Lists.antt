@@ -1,15 +1,17 @@
 -- What counts over the products of two lists say of their elements. Assumes nothing.
-use mathlib.Core.Path.{◌≡◌, refl, ap}
+use mathlib.Core.Path.{◌≡◌, refl, sym, ap, ◌∙◌, subst}
 use mathlib.Core.List.{List, [], ◌∷◌}
 use mathlib.Core.Bool.{Bool, ◌&&◌, cond}
-use Prim.Native.Nat.{ℕ, suc}
+use Prim.Native.Nat.{ℕ, zero, suc, ◌<◌}
 use native.Mathlib.Omega.{arith}
 use lib.Dec.{T}
 use lib.ListN.{length, get_or}
-use lib.Ieee.{Float, nan, binary32, fits}
+use lib.Ieee.{Float, nan, inf, fin, binary32, fits}
 use lib.Ieee.Bits.{is_true}
 use lib.Ieee.Fits.{and_i, and_l, and_r}
 use lib.Ieee.Scale.{finite}
+use Rattle.std.specs.Prelude.{IsTrue}
+use Rattle.std.specs.Float.{float_is_finite}
 use Rattle.sums.specs.Dot.{Elements, all_finite, sum_over}
 use Rattle.sums.proofs.Count.{one, failing}
 use Rattle.sums.proofs.Trees.{counted, is_number}
@@ -47,3 +49,27 @@ number_elements (x ∷ a) (y ∷ b) p q e =
     let t : failing is_number x y ≡ 0 = ap (λ (b : Bool). cond b 0 1) (is_true (is_number x && is_number y) (and_i (is_number x) (is_number y) u v)) in
     let r = number_elements a b (λ i. p (suc i)) (λ i. q (suc i)) (record { first = and_r (finite x) (all_finite a) e.first; second = and_r (finite y) (all_finite b) e.second }) in
     omega arith
+
+-- ---- the program's test of a float, and of all elements
+same_finite : (x : Float) → float_is_finite x ≡ finite x
+unfolding float_is_finite
+same_finite nan = refl
+same_finite (inf s) = refl
+same_finite (fin s m e) = refl
+
+pub finite_of : (x : Float) → IsTrue (float_is_finite x) → T (finite x)
+finite_of x e = subst T (sym e ∙ same_finite x) tt
+
+pub finite_back : (x : Float) → T (finite x) → IsTrue (float_is_finite x)
+finite_back x t = same_finite x ∙ is_true (finite x) t
+
+pub all_finite_of : (a : List Float) → ((k : ℕ) → k < length a → IsTrue (float_is_finite (get_or a k nan))) → T (all_finite a)
+unfolding all_finite
+all_finite_of [] h = tt
+all_finite_of (x ∷ a) h = and_i (finite x) (all_finite a) (finite_of x (h 0 (omega arith))) (all_finite_of a (λ k l. h (suc k) (omega arith)))
+
+pub each_finite : (a : List Float) → T (all_finite a) → (k : ℕ) → k < length a → IsTrue (float_is_finite (get_or a k nan))
+unfolding all_finite
+each_finite [] t k l = absurd (omega arith)
+each_finite (x ∷ a) t zero l = finite_back x (and_l (finite x) (all_finite a) t)
+each_finite (x ∷ a) t (suc k) l = each_finite a (and_r (finite x) (all_finite a) t) k (omega arith)

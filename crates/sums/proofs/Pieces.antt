@@ -123,18 +123,32 @@ module _ (a b : List Float) (l : Lengths a b) where
       ap₂ (add binary32) f (g ∙ sym (ap₂ sum_of (drop-drop (2 ^ k) i a) (drop-drop (2 ^ k) i b)))
       ∙ sym (first_piece k (drop i a) (drop i b) (same_behind i) (few_behind i) (omega arith) (omega arith))
 
-  -- a digit of the length that is 1 is a block in front of what lies behind it
+  -- a digit of the length that is 1 is a block
+  odd_digit : (k : ℕ) → length a / 2 ^ k % 2 ≡ 1 → length a / 2 ^ k * 2 ^ k ≡ length a / (2 ^ k * 2) * (2 ^ k * 2) + 2 ^ k
+  odd_digit k = doubled (length a / 2 ^ k) (2 ^ k) (length a / (2 ^ k * 2)) (sym (div-div-eq-div-mul (length a) (2 ^ k) 2))
+    where
+      doubled : (q w p : ℕ) → p ≡ q / 2 → q % 2 ≡ 1 → q * w ≡ p * (w * 2) + w
+      doubled q w p e o = let t : q ≡ 2 * p + 1 = omega arith in rw t (omega arith)
+
+  -- for which there is room behind the higher digits
+  pub digit_room : (k : ℕ) {x : List Float} → length a / 2 ^ k % 2 ≡ 1 → Behind (length a / (2 ^ k * 2) * (2 ^ k * 2)) a x → 2 ^ k ≤ length x
+  digit_room k odd p =
+      let h = div-add-mod' (length a) (2 ^ k) in
+      let d = odd_digit k odd in
+      let m = p.many in
+      omega arith
+
+  -- and which stands in front of what lies behind it
   pub digit_on : (k : ℕ) {x y : List Float} {r s : Float} → length a / 2 ^ k % 2 ≡ 1 → s ≡ behind_last (2 ^ k) a b
-      → Behind (length a / (2 ^ k * 2) * (2 ^ k * 2)) a x → Behind (length a / (2 ^ k * 2) * (2 ^ k * 2)) b y → r ≡ block_of k x y → add binary32 r s ≡ behind_last (2 ^ k * 2) a b
+      → Behind (length a / (2 ^ k * 2) * (2 ^ k * 2)) a x → Behind (length a / (2 ^ k * 2) * (2 ^ k * 2)) b y → r ≡ block_of k x y
+      → add binary32 r s ≡ behind_last (2 ^ k * 2) a b
   digit_on k odd f p q g =
       let W = 2 ^ k in
       let h = div-add-mod' (length a) W in
       let m = mod-lt (length a) (pow_pos k) in
-      let d = doubled (length a / W) W (length a / (W * 2)) (sym (div-div-eq-div-mul (length a) W 2)) odd in
-      piece k (length a / (W * 2) * (W * 2)) (omega arith) (omega arith) (g ∙ ap₂ (block_of k) p.rest q.rest) (f ∙ ap (λ (n : ℕ). sum_of (drop n a) (drop n b)) d)
-    where
-      doubled : (q w p : ℕ) → p ≡ q / 2 → q % 2 ≡ 1 → q * w ≡ p * (w * 2) + w
-      doubled q w p e o = let t : q ≡ 2 * p + 1 = omega arith in rw t (omega arith)
+      let d = odd_digit k odd in
+      piece k (length a / (W * 2) * (W * 2)) (omega arith) (omega arith) (g ∙ ap₂ (block_of k) p.rest q.rest)
+      (f ∙ ap (λ (n : ℕ). sum_of (drop n a) (drop n b)) d)
 
   -- and one that is 0 changes nothing
   pub digit_off : (k : ℕ) {s : Float} → (length a / 2 ^ k % 2 ≡ 1 → ⊥) → s ≡ behind_last (2 ^ k) a b → s ≡ behind_last (2 ^ k * 2) a b

@@ -1,13 +1,8 @@
 -- What the parts of the program compute. A reader of the promise need not read this: Dot says what is computed of the whole lists. Definitions only.
-use Rattle.std.specs.Prelude.{◌≡◌, List, [], ◌∷◌, ℕ, zero, suc, ◌+◌, ◌*◌, ◌/◌, ◌^◌, ◌≤◌, ◌<◌, length, get_or, drop, Float}
+use Rattle.std.specs.Prelude.{◌≡◌, List, [], ◌∷◌, ℕ, zero, suc, ◌+◌, ◌*◌, ◌/◌, ◌^◌, ◌<◌, length, get_or, drop, Float}
 use Rattle.std.specs.Float.{nan, binary32}
 use Rattle.std.specs.Float.Ieee.{of_bits, add, mul}
 use Rattle.sums.specs.Dot.{dot_of}
-
--- both lists have n elements at least
-pub record Long (n : ℕ) (a b : List Float) : Type 0 where
-  pub first : n ≤ length a
-  pub second : n ≤ length b
 
 -- the first 2 ^ k products, added in pairs: those of the first half and those of the second
 unfoldable pub block_of : ℕ → List Float → List Float → Float

@@ -1,25 +1,20 @@
 -- Lists by their elements, and sums of families of whole numbers. Assumes nothing.
 use mathlib.Core.Path.{◌≡◌, refl, sym, ap₂, ◌∙◌}
 use mathlib.Core.Logic.{inl, inr}
-use mathlib.Core.List.{List, [], ◌∷◌, map}
+use mathlib.Core.List.{List, map}
 use Prim.Native.Nat.{ℕ, zero, suc, ◌+◌, ◌*◌, ◌≤◌, ◌<◌}
 use native.Mathlib.Nat.{le_trans}
 use native.Mathlib.Omega.{arith}
 use Rattle.units.proofs.Naturals.{le-or-lt}
 use lib.ListN.{length, get_or, length-map}
 use lib.Seq.{ext_get_or}
+use Rattle.std.proofs.lemmas.List.{get_or-map}
 use Rattle.weights.specs.Lists.{sum}
 
 -- ---- lists
--- an element of a list of images
-pub get-map : {A B : Type 0} (f : A → B) (a : A) (b : B) (l : List A) (i : ℕ) → i < length l → get_or (map f l) i b ≡ f (get_or l i a)
-get-map f a b [] i h = absurd (omega arith)
-get-map f a b (x ∷ l) zero h = refl
-get-map f a b (x ∷ l) (suc i) h = get-map f a b l i (omega arith)
-
 -- a list with the same elements is the list of images
 pub is_map : {A B : Type 0} (f : A → B) (a : A) (b : B) (l : List A) (m : List B) → length m ≡ length l → ((i : ℕ) → i < length l → get_or m i b ≡ f (get_or l i a)) → m ≡ map f l
-is_map f a b l m e h = ext_get_or b m (map f l) (e ∙ sym (length-map l f)) (λ i k. let k' : i < length l = omega arith in h i k' ∙ sym (get-map f a b l i k'))
+is_map f a b l m e h = ext_get_or b m (map f l) (e ∙ sym (length-map l f)) (λ i k. let k' : i < length l = omega arith in h i k' ∙ sym (get_or-map f l i a b k'))
 
 -- ---- families
 

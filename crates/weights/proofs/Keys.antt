@@ -2,7 +2,7 @@
 use mathlib.Core.Path.{◌≡◌, refl, sym, ap, ap₂, ◌∙◌, subst}
 use mathlib.Core.Logic.{inl, inr}
 use mathlib.Core.List.{List}
-use Prim.Native.Nat.{ℕ, zero, suc, ◌+◌, ◌-◌, ◌%◌, ◌≤◌, ◌<◌}
+use Prim.Native.Nat.{ℕ, zero, suc, max, ◌+◌, ◌-◌, ◌%◌, ◌≤◌, ◌<◌}
 use native.Mathlib.Nat.{le_trans, le_of_eq}
 use native.Mathlib.Numerals.{add-one}
 use native.Mathlib.Omega.{arith}
@@ -65,6 +65,10 @@ key_order x y n m l = elim (le-or-lt 2147483648 (float_bits x)) [
 -- ---- the largest of a family
 larger_most : (a b : ℕ) → (a ≤ larger a b) × (b ≤ larger a b)
 larger_most a b = elim (le-or-lt b a) [ inl l ↦ rw (le-ltb a b l) (omega arith, l) | inr l ↦ rw (lt-ltb a b l) (omega arith, omega arith) ]
+
+-- the program's maximum is that
+pub larger_is : (a b : ℕ) → max a b ≡ larger a b
+larger_is a b = elim (le-or-lt b a) [ inl l ↦ rw (le-ltb a b l) (omega arith) | inr l ↦ rw (lt-ltb a b l) (omega arith) ]
 
 -- no member is above it
 not_above : (f : ℕ → ℕ) (n i : ℕ) → i < n → f i ≤ largest f n

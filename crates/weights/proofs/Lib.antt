@@ -1,9 +1,9 @@
 pub mod Range
 pub mod Source
+pub mod Keeping
 pub mod Families
 pub mod Keys
 pub mod Aligning
-pub mod Keeping
 pub mod Inverting
 pub mod Scaled
 pub mod Rounding

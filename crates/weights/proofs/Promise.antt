@@ -21,7 +21,8 @@ use Rattle.weights.specs.Lists.{at, sum}
 use Rattle.weights.specs.Softmax.{Elements, Lengths, Accepts, Encloses, NearQuotients, Whole, Inside, Softmax, softmax_error_num, softmax_error_den, whole_error_num, whole_error_den}
 use Rattle.weights.specs.Value.{power_at, factor_of, places_of, unit_bits, weight_bits, weight_of, softmax_of}
 use Rattle.weights.proofs.Range.{power}
-use Rattle.weights.proofs.Families.{get-map, is_map, sum-le, sum_same, member}
+use Rattle.std.proofs.lemmas.List.{get_or-map}
+use Rattle.weights.proofs.Families.{is_map, sum-le, sum_same, member}
 use Rattle.weights.proofs.Scaled.{scaling, inverse}
 use Rattle.weights.proofs.Inverting.{Inverse}
 use Rattle.weights.proofs.Rounding.{weight_units, Placed, placed, units_most, units_least, units_one, weight_is, pattern_in, weight_order}
@@ -64,7 +65,7 @@ module _ (base : Base) (xs : List Float) (all : Elements xs) (some : 1 ≤ lengt
 
   each : (i : ℕ) → i < n → at ps i ≡ weight_of base r c (at xs i)
   unfolding softmax_of
-  each i h = get-map (weight_of base r c) nan nan xs i h
+  each i h = get_or-map (weight_of base r c) xs i nan nan h
 
   abbrev U : ℕ → ℕ
   U i = weight_units (fixed_digits base (at xs i) * r) (fixed_exponent base (at xs i) + 115) c
@@ -97,7 +98,7 @@ module _ (base : Base) (xs : List Float) (all : Elements xs) (some : 1 ≤ lengt
   unfolding softmax_of
   patterns =
       is_map float_bits nan 0 ps (map (weight_bits base r c) xs) (length-map xs (weight_bits base r c) ∙ sym as_many)
-      (λ i h. let k : i < n = omega (arith, as_many) in get-map (weight_bits base r c) nan 0 xs i k ∙ sym (ap float_bits (each i k) ∙ output_bits i k))
+      (λ i h. let k : i < n = omega (arith, as_many) in get_or-map (weight_bits base r c) xs i nan 0 k ∙ sym (ap float_bits (each i k) ∙ output_bits i k))
 
   -- ---- near
   scaled : (i : ℕ) → fixed_digits base (at xs i) * r * 2 ^ fixed_exponent base (at xs i) ≡ power_at base xs i * r

@@ -1,45 +1,13 @@
--- `circle::sin` meets its promise: the pattern's test tells whether x is accepted. Assumes nothing.
-use Rattle.std.proofs.Common.{◌≡◌, ℕ, ◌/◌, ◌<◌, T, sym, ap, ◌∙◌, subst, arith}
-use lib.Ieee.{binary32, to_bits}
-use lib.Ieee.Bits.{to_bits-lt}
-use Rattle.fixed.proofs.Take.{equal_to_itself, no_number}
-use Rattle.circle.specs.Phase.{radians}
-use Rattle.circle.specs.Wave.{wave_bits, half_on}
-use Rattle.circle.specs.Promise.{Accepts}
-use Rattle.circle.proofs.Taken.{size_bits}
+-- `circle::sin` meets its promise: x has a phase where it is accepted, and only there. Assumes nothing.
+use Rattle.std.proofs.Common.{T, sym, refl, subst, ◌∙◌}
 use Rattle.circle.proofs.Range.{in_range, out_of_range}
-use Rattle.circle.proofs.Promise.{sin_success, sin_refusal}
-use Rattle.circle.proofs.sin.Goals.{Joined-size-lt-FAR, then-size-lt-FAR, else-size-lt-FAR+then-size-lt-INFINITY}
+use Rattle.circle.proofs.Promise.{answered, sin_success, sin_refusal}
 use Rattle.circle.proofs.sin.Goals as goal
-
-pub returns-then-x : goal.returns-then-x
-returns-then-x c = sin_refusal c.args.x (no_number c.args.x c.if-x.true)
-
-pub float_to_bits-b : goal.float_to_bits-b
-float_to_bits-b c = equal_to_itself c.args.x c.if-x.false
-
-pub returns-else-size-lt-INFINITY : goal.returns-else-size-lt-INFINITY
-returns-else-size-lt-INFINITY c = let x = c.args.x in sin_refusal x (out_of_range x (omega (arith, c.if-size-lt-INFINITY.false)))
-
--- where both ways meet: x is accepted, and its phase is taken
-met : (c : Joined-size-lt-FAR) → Accepts c.args.x × (c.if-size-lt-FAR.phase ≡ radians (size_bits c.args.x))
-met c =
-    let x = c.args.x in
-    let fits32 = subst T (sym c.well_formed.0.1) tt in
-    elim c.if-size-lt-FAR.branch [
-      | then-size-lt-FAR w ↦
-          (in_range x fits32 (omega (arith, w.if-size-lt-FAR.true)), w.phase-is ∙ w.radians-phase.ensures)
-      | else-size-lt-FAR+then-size-lt-INFINITY w ↦
-          (in_range x fits32 (omega (arith, w.if-size-lt-INFINITY.true)), w.phase-is ∙ w.far_radians.ensures)
-    ]
-
-pub sine-requires : goal.sine-requires
-sine-requires c =
-    let bits : to_bits binary32 c.args.x < 4294967296 = to_bits-lt binary32 c.args.x (subst T (sym c.well_formed.0.1) tt) in
-    omega arith
 
 pub returns : goal.returns
 returns c =
-    let (a, e) = met (goal.at.returns c).Joined-size-lt-FAR in
-    let b = to_bits binary32 c.args.x in
-    sin_success _ a (c.sine.ensures ∙ ap (λ (n : ℕ). wave_bits (half_on n (b / 2147483648))) e)
+    let x = c.args.x in
+    let fits32 = subst T (sym c.well_formed.0.1) tt in
+    answered c.of.result c.map.result c.of.ensures c.map.ensures.cases
+    (λ angle bits v p. sin_success x (in_range x fits32 v.0.0) (p ∙ rw (v.0.1, v.1) refl))
+    (λ n. sin_refusal x {before = 0} (λ a. out_of_range x (n a) a))

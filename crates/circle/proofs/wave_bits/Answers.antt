@@ -1,5 +1,6 @@
 -- `circle::wave_bits` meets its contract: sign and size do not meet. Assumes nothing.
-use Rattle.std.proofs.Common.{◌≡◌, ℕ, ◌+◌, ◌*◌, ◌/◌, ◌^◌, ◌<◌, ◌≤◌, sym, ap, ◌∙◌, le_trans, le_of_eq, arith, eq-eqb, ne_eqb}
+use Rattle.std.proofs.Common.{◌≡◌, ℕ, ◌+◌, ◌*◌, ◌/◌, ◌^◌, ◌<◌, ◌≤◌, sym, ap, ◌∙◌, le_trans, le_of_eq, arith}
+use Rattle.std.proofs.Common.{eq-eqb, ne_eqb}
 use Rattle.fixed.specs.Rounded.{nearest_bits}
 use Rattle.fixed.proofs.Rounding.{bits_fit}
 use Rattle.circle.specs.Kernel.{quarter_sine}
@@ -15,7 +16,9 @@ size c = c.quarter_sine-n.ensures ∙ ap quarter_sine c.place.ensures
 
 pub returns-then-n-eq0 : goal.returns-then-n-eq0
 unfolding wave_bits
-returns-then-n-eq0 c = rw (eq-eqb _ _ (sym (size (goal.at.returns-then-n-eq0 c).After-quarter_sine-n) ∙ c.if-n-eq0.true))
+returns-then-n-eq0 c =
+    let e = size (goal.at.returns-then-n-eq0 c).After-quarter_sine-n in
+    rw (eq-eqb _ _ (sym e ∙ c.if-n-eq0.true))
 
 pub nearest_bits-requires : goal.nearest_bits-requires
 nearest_bits-requires c = normal c.quarter_sine-n.result
@@ -24,8 +27,10 @@ pub overflow_add-result : goal.overflow_add-result
 overflow_add-result c =
     let n = c.quarter_sine-n.result in
     let t = c.args.phase in
-    let top : n ≤ 4294967303 = le_trans (le_of_eq (size (goal.at.overflow_add-result c).After-quarter_sine-n)) (size_top t) in
-    let b : c.nearest_bits.result < 255 * 8388608 = rw c.nearest_bits.ensures (bits_fit n 157 (omega arith) (normal n)) in
+    let e = size (goal.at.overflow_add-result c).After-quarter_sine-n in
+    let top : n ≤ 4294967303 = le_trans (le_of_eq e) (size_top t) in
+    let fit = bits_fit n 157 (omega arith) (normal n) in
+    let b : c.nearest_bits.result < 255 * 8388608 = rw c.nearest_bits.ensures fit in
     omega arith
 
 pub returns : goal.returns
@@ -33,4 +38,5 @@ unfolding wave_bits
 returns c =
     let t = c.args.phase in
     let e = size (goal.at.returns c).After-quarter_sine-n in
-    rw (ne_eqb (size_of t) _ (λ z. c.if-n-eq0.false (e ∙ z))) (ap (λ (b : ℕ). t / 2 ^ 63 * 2147483648 + b) (c.nearest_bits.ensures ∙ ap (λ (n : ℕ). nearest_bits n 157) e))
+    let digits = c.nearest_bits.ensures ∙ ap (λ (n : ℕ). nearest_bits n 157) e in
+    rw (ne_eqb (size_of t) _ (λ z. c.if-n-eq0.false (e ∙ z))) (ap (λ (b : ℕ). t / 2 ^ 63 * 2147483648 + b) digits)

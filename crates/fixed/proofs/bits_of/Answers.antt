@@ -1,14 +1,9 @@
--- `fixed::bits_of` gives the pattern: a float that differs from itself is a NaN, and any other has bits to read. Assumes nothing.
-use mathlib.Core.Path.{sym, ap, subst}
-use lib.Dec.{T}
+-- `fixed::bits_of` gives the pattern: of a NaN, as the logic's `to_bits` says it. Assumes nothing.
+use Rattle.std.proofs.Common.{sym, ap, ◌∙◌}
 use lib.Ieee.{binary32, to_bits}
-use lib.Ieee.Compare.{differs_from_itself}
-use Rattle.fixed.proofs.Take.{equal_to_itself}
+use Rattle.fixed.proofs.Take.{the_nan}
 use Rattle.fixed.proofs.bits_of.Goals as goal
 
-pub returns-then-x : goal.returns-then-x
+pub returns-then-is_nan : goal.returns-then-is_nan
 unfolding to_bits
-returns-then-x c = sym (ap (to_bits binary32) (differs_from_itself c.args.x (subst T (sym c.if-x.true) tt)))
-
-pub float_to_bits-result : goal.float_to_bits-result
-float_to_bits-result c = equal_to_itself c.args.x c.if-x.false
+returns-then-is_nan c = sym (ap (to_bits binary32) (the_nan c.args.x (sym c.is_nan.ensures.value ∙ c.if-is_nan.true)))

@@ -31,12 +31,6 @@ high c = shifted_high c.args.n c.args.e (count_leading_zeros 64 c.args.n) (digit
 pub overflow_sub-m : goal.overflow_sub-m
 overflow_sub-m c = one c
 
-pub overflow_cast-m : goal.overflow_cast-m
-overflow_cast-m c = omega (arith, (digits c).small)
-
-pub overflow_shl-m : goal.overflow_shl-m
-overflow_shl-m c = omega (arith, (digits c).small)
-
 pub overflow_sub-result : goal.overflow_sub-result
 overflow_sub-result c = few c
 
@@ -48,4 +42,8 @@ overflow_add-result-2 c = omega (arith, high c)
 
 pub returns : goal.returns
 unfolding even_bits even_digits
-returns c = rw (mod-eq_of_lt {m = 18446744073709551616} (lt_of_lt_of_le (high c) (omega arith)), some c.args.n c.args.e (above_zero c)) refl
+returns c =
+    rw (
+      mod-eq_of_lt {m = 18446744073709551616} (lt_of_lt_of_le (high c) (omega arith)),
+      some c.args.n c.args.e (above_zero c),
+    ) refl

@@ -1,4 +1,5 @@
--- `fixed::first_word` meets its contract: the leading zeros are those of the upper word, where that is not zero. Assumes nothing.
+-- `fixed::first_word` meets its contract: the leading zeros are those of the upper word, where that is not zero.
+-- Assumes nothing.
 use mathlib.Core.Path.{◌≡◌, refl, ap, ◌∙◌}
 use Prim.Native.Nat.{ℕ, ◌+◌, ◌*◌, ◌/◌, ◌%◌, ◌^◌, ◌≤◌, ◌<◌}
 use native.Mathlib.Nat.{mod-eq_of_lt}
@@ -13,38 +14,41 @@ module _ (c : goal.Then-h-gt0) where
   abbrev n : ℕ
   n = c.args.n
 
-  zeros : (count_leading_zeros 32 (n / 4294967296) ≤ 31) × (count_leading_zeros 32 (n / 4294967296) ≡ count_leading_zeros 64 n)
-  zeros = upper_zeros n c.if-h-gt0.true (omega arith)
+  abbrev zeros : ℕ
+  zeros = count_leading_zeros 32 (n / 4294967296)
 
-  digits : Placed n (count_leading_zeros 32 (n / 4294967296))
-  digits = rw zeros.1 (placed n c.requires (omega arith))
+  counted : (zeros ≤ 31) × (zeros ≡ count_leading_zeros 64 n)
+  counted = upper_zeros n c.if-h-gt0.true (omega arith)
+
+  digits : Placed n zeros
+  digits = rw counted.1 (placed n c.requires (omega arith))
 
 pub upper_word-requires : goal.upper_word-requires
-upper_word-requires c = ((digits c).high, let h = (zeros c).0 in omega arith)
+upper_word-requires c = ((digits c).high, let h = (counted c).0 in omega arith)
 
 pub returns-then-h-gt0 : goal.returns-then-h-gt0
-returns-then-h-gt0 c = (c.upper_word.ensures ∙ ap (λ (z : ℕ). n c.before * 2 ^ z / 4294967296) (zeros c.before).1, (zeros c.before).1)
+returns-then-h-gt0 c =
+    let t = c.before in
+    (c.upper_word.ensures ∙ ap (λ (z : ℕ). n t * 2 ^ z / 4294967296) (counted t).1, (counted t).1)
 
+-- ---- of 32 digits or less
 module _ (c : goal.Else-h-gt0) where
   abbrev m : ℕ
   m = c.args.n
 
+  abbrev places : ℕ
+  places = count_leading_zeros 32 m
+
   same : m % 4294967296 ≡ m
   same = let h = c.if-h-gt0.false in omega arith
 
-  lower : (count_leading_zeros 32 m ≤ 31) × (m * 2 ^ count_leading_zeros 32 m < 4294967296) × (32 + count_leading_zeros 32 m ≡ count_leading_zeros 64 m)
+  lower : (places ≤ 31) × (m * 2 ^ places < 4294967296) × (32 + places ≡ count_leading_zeros 64 m)
   lower = lower_zeros m c.requires (let h = c.if-h-gt0.false in omega arith)
-
-pub overflow_shl-result : goal.overflow_shl-result
-overflow_shl-result c = rw (same c) (let h = (lower c).0 in omega arith)
-
-pub overflow_add-result : goal.overflow_add-result
-overflow_add-result c = rw (same c) (let h = (lower c).0 in omega arith)
 
 pub returns : goal.returns
 returns c =
     let (s, u, e) = lower c in
-    rw (same c, ← e, mod-eq_of_lt u) (put (m c) (count_leading_zeros 32 (m c)), refl)
+    rw (same c, ← e, mod-eq_of_lt u) (put (m c) (places c), refl)
   where
     put : (n z : ℕ) → n * 2 ^ z ≡ n * 2 ^ (32 + z) / 4294967296
     put n z = rw (pow-add 2 32 z) (cut n (2 ^ z))

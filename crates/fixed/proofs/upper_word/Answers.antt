@@ -19,7 +19,9 @@ module _ (n S T : ℕ) (ps : 0 < S) (pt : 0 < T) (whole : S * T ≡ 4294967296) 
       turned l = rw (← whole) (omega arith)
 
   both : n / 4294967296 * S + n % 4294967296 / T ≡ n * S / 4294967296
-  both = rw low_same (through (n / 4294967296 * S) (n % 4294967296 * S) (n * S) (halves (n / 4294967296) (n % 4294967296) (omega arith)))
+  both =
+      rw low_same
+      (through (n / 4294967296 * S) (n % 4294967296 * S) (n * S) (halves (n / 4294967296) (n % 4294967296) (omega arith)))
     where
       halves : (u l : ℕ) → n ≡ u * 4294967296 + l → n * S ≡ u * S * 4294967296 + l * S
       halves u l e = rw e (omega arith)
@@ -43,7 +45,9 @@ module _ (c : goal.Start) where
 
   -- a place first, and the others
   twice : n % 4294967296 / 2 / 2 ^ (31 - s) ≡ n % 4294967296 / 2 ^ (32 - s)
-  twice = div-div-eq-div-mul (n % 4294967296) 2 (2 ^ (31 - s)) ∙ ap (λ (i : ℕ). n % 4294967296 / i) (one_more (31 - s) ∙ ap (λ (i : ℕ). 2 ^ i) (places s c.requires.1))
+  twice =
+      div-div-eq-div-mul (n % 4294967296) 2 (2 ^ (31 - s))
+      ∙ ap (λ (i : ℕ). n % 4294967296 / i) (one_more (31 - s) ∙ ap (λ (i : ℕ). 2 ^ i) (places s c.requires.1))
     where
       one_more : (i : ℕ) → 2 * 2 ^ i ≡ 2 ^ (1 + i)
       one_more i = sym (pow-add 2 1 i)
@@ -56,15 +60,6 @@ module _ (c : goal.Start) where
 
   sum : n / 4294967296 * 2 ^ s + n % 4294967296 / 2 / 2 ^ (31 - s) ≡ n * 2 ^ s / 4294967296
   sum = rw twice (both n (2 ^ s) (2 ^ (32 - s)) (pow_pos s) (pow_pos (32 - s)) split c.requires.0)
-
-pub overflow_shl-result : goal.overflow_shl-result
-overflow_shl-result c = c.requires.1
-
-pub overflow_sub-result : goal.overflow_sub-result
-overflow_sub-result c = let h = c.requires.1 in omega arith
-
-pub overflow_shr-result : goal.overflow_shr-result
-overflow_shr-result c = let h = c.requires.1 in omega arith
 
 pub overflow_add-result : goal.overflow_add-result
 overflow_add-result c = rw (mod-eq_of_lt (high c), sum c) (let w = c.requires.0 in omega arith)

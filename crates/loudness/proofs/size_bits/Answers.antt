@@ -9,5 +9,5 @@ float_to_bits-p c = c.requires
 pub returns-then-p : goal.returns-then-p
 returns-then-p c = sym (set_bits c.args.a c.if-p.true)
 
-pub returns : goal.returns
-returns c = sym (other_bits c.args.a c.if-p.false)
+pub returns-else-p : goal.returns-else-p
+returns-else-p c = sym (other_bits c.args.a c.if-p.false)

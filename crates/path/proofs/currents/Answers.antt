@@ -1,44 +1,55 @@
--- `path::currents` meets its contract: lengths, then bands, then the rest. Assumes nothing.
-use mathlib.Core.Path.{◌≡◌, sym, subst}
-use Prim.Native.Nat.{ℕ, ◌*◌, ◌/◌, ◌≤◌}
-use native.Mathlib.Nat.{eq-zero-or-pos}
-use mathlib.Core.Logic.{inl, inr}
+-- `path::currents` meets its contract: lengths, then bands, then samples. Assumes nothing.
+use Rattle.std.specs.Prelude.{Err}
+use Rattle.std.proofs.Common.{rules}
+use mathlib.Core.Path.{◌≡◌, refl, sym, ap, ◌∙◌, subst}
 use native.Mathlib.Omega.{arith}
 use lib.ListN.{length}
-use Rattle.path.specs.Path.{Lengths, Bands}
-use Rattle.path.proofs.Promise.{refused_length, refused_band}
-use Rattle.path.proofs.currents.Goals.{Else-bands-n}
+use Rattle.std.specs.Simd.{first_chunks}
+use Rattle.units.specs.declared.refusal.Refusal.TheVariants.{BadChannel}
+use Rattle.path.specs.Path.{Lengths, Bands, Accepts}
+use Rattle.path.specs.Ready.{AllBands, SteppedBy}
+use Rattle.path.proofs.Chunks.{bands_among, bands_alone, stepped}
+use Rattle.path.proofs.Samples.{samples_of, all_small}
+use Rattle.path.proofs.Promise.{refused_band, refused_sample, promised}
+use Rattle.path.proofs.currents.Goals.{Else-not-is_empty}
 use Rattle.path.proofs.currents.Goals as goal
 
-pub returns-then-x-ne128 : goal.returns-then-x-ne128
-returns-then-x-ne128 c = refused_length c.args.top c.args.x.now c.args.w.now c.args.bands.now (length c.args.out.now) (λ h. c.if-x-ne128.true h.samples)
+-- behind the tests of lengths
+lengths : (c : Else-not-is_empty) → Lengths c.args.x.now c.args.w.now c.args.bands.now (length c.args.out.now)
+lengths c =
+    let rest : length c.as_chunks.result.1.now ≡ 0 = search rules in
+    record { samples = c.if-x-ne128.false; window = c.if-w-ne128.false; some = omega arith; few = c.if-n-gt65.false; words = omega arith }
 
-pub returns-then-w-ne128 : goal.returns-then-w-ne128
-returns-then-w-ne128 c = refused_length c.args.top c.args.x.now c.args.w.now c.args.bands.now (length c.args.out.now) (λ h. c.if-w-ne128.true h.window)
+-- each six of the words
+chunks : (c : Else-not-is_empty) → c.as_chunks.result.0.now ≡ first_chunks 6 (length c.args.out.now) c.args.bands.now
+chunks c = c.as_chunks.ensures.front ∙ ap (λ k. first_chunks 6 k c.args.bands.now) (sym c.as_chunks.ensures.front_len ∙ c.if-bands-n.false)
 
-pub returns-then-n-eq0 : goal.returns-then-n-eq0
-returns-then-n-eq0 c = refused_length c.args.top c.args.x.now c.args.w.now c.args.bands.now (length c.args.out.now) (λ h. omega (arith, h.some, c.if-n-eq0.true))
+bands : (c : Else-not-is_empty) → AllBands c.args.top c.as_chunks.result.0.now → Bands c.args.top c.args.bands.now (length c.args.out.now)
+bands c h = bands_among c.args.bands.now (length c.args.out.now) c.args.top (subst (AllBands c.args.top) (chunks c) h)
 
-pub returns-then-n-gt65 : goal.returns-then-n-gt65
-returns-then-n-gt65 c = refused_length c.args.top c.args.x.now c.args.w.now c.args.bands.now (length c.args.out.now) (λ h. omega (arith, h.few, c.if-n-gt65.true))
+pub returns-in_err-bands : goal.returns-in_err-bands
+returns-in_err-bands c =
+    let at = (goal.at.returns-in_err-bands c).Else-not-is_empty in
+    let bs = c.args.bands.now in
+    let n = length c.args.out.now in
+    let refused : c.from_residual.result ≡ Err BadChannel = search rules in
+    rw refused (refused_band c.args.top c.args.x.now c.args.w.now bs n (lengths at) (λ h. c.in_err-bands.ensures.1 (subst (AllBands c.args.top) (sym (chunks at)) (bands_alone bs n c.args.top h))))
 
-pub returns-then-bands-n : goal.returns-then-bands-n
-returns-then-bands-n c = refused_length c.args.top c.args.x.now c.args.w.now c.args.bands.now (length c.args.out.now) (λ h. c.if-bands-n.true h.words)
-
--- ---- lengths, behind their tests
-lengths : (c : Else-bands-n) → Lengths c.args.x.now c.args.w.now c.args.bands.now (length c.args.out.now)
-lengths c = record { samples = c.if-x-ne128.false; window = c.if-w-ne128.false; some = above _ c.if-n-eq0.false; few = c.if-n-gt65.false; words = c.if-bands-n.false }
-  where
-    above : (n : ℕ) → ¬ (n ≡ 0) → 1 ≤ n
-    above n h = elim (eq-zero-or-pos n) [ inl z ↦ absurd (h z) | inr p ↦ p ]
-
-sixth : (n k : ℕ) → n ≡ 6 * k → n / 6 ≡ k
-sixth n k e = omega arith
-
-pub judged-requires : goal.judged-requires
-judged-requires c =
-    (lengths (goal.at.judged-requires c).Else-bands-n, subst (Bands c.args.top c.args.bands.now) (sixth _ _ (lengths (goal.at.judged-requires c).Else-bands-n).words) (c.accepted.ensures.if_true c.if-accepted.true))
+pub returns-then-not-accepts : goal.returns-then-not-accepts
+returns-then-not-accepts c =
+    let at = (goal.at.returns-then-not-accepts c).Else-not-is_empty in
+    let xs = c.args.x.now in
+    let ws = c.args.w.now in
+    refused_sample c.args.top xs ws c.args.bands.now (length c.args.out.now) (lengths at) (bands at c.in_ok-bands.ensures.1) (λ h. c.if-not-accepts.ensures.if_false refl (all_small xs ws h))
 
 pub returns : goal.returns
 returns c =
-    refused_band c.args.top c.args.x.now c.args.w.now c.args.bands.now (length c.args.out.now) (lengths (goal.at.returns c).Else-bands-n) (λ h. c.accepted.ensures.if_false c.if-accepted.false (subst (Bands c.args.top c.args.bands.now) (sym (sixth _ _ (lengths (goal.at.returns c).Else-bands-n).words)) h))
+    let at = (goal.at.returns c).Else-not-is_empty in
+    let xs = c.args.x.now in
+    let ws = c.args.w.now in
+    let bs = c.args.bands.now in
+    let n = length c.args.out.now in
+    let h = c.hear.ensures in
+    let accepts : Accepts c.args.top xs ws bs n = record { lengths = lengths at; bands = bands at c.in_ok-bands.ensures.1; samples = samples_of xs ws (c.if-not-accepts.ensures.if_true refl) } in
+    promised c.args.top xs ws bs n accepts h.ys h.products h.r h.count h.fills h.gs h.moduli c.hear.new.out
+    (stepped bs n h.gs c.hear.new.out (subst (λ cs. SteppedBy h.gs cs n c.hear.new.out) (c.in_ok-bands.ensures.0 ∙ chunks at) h.stepped))

@@ -1,11 +1,12 @@
--- `powers::whole_cut` meets its contract: modulo 2 ^ 64 the product adds the steps, or takes them away. Assumes nothing.
-use Rattle.std.proofs.Common.{◌≡◌, ℕ, ◌+◌, ◌-◌, ◌*◌, ◌/◌, ◌%◌, ◌^◌, ◌<◌, ◌≤◌, cond, ltb, sym, ap, ◌∙◌, inl, inr, le_trans, le_of_eq, lt_of_le_of_lt, mod-eq_of_lt, mul-le-mul, one-mul, mul-add, arith, pow_pos, pow_mono, le-ltb, lt-ltb}
+-- `powers::whole_cut` meets its contract: modulo 2 ^ 64 the product adds the steps, or takes them away. Assumes
+-- nothing.
+use Rattle.std.proofs.Common.{◌≡◌, ℕ, ◌+◌, ◌-◌, ◌*◌, ◌/◌, ◌%◌, ◌^◌, ◌<◌, ◌≤◌, sym, ap, ◌∙◌, le_trans, le_of_eq}
+use Rattle.std.proofs.Common.{lt_of_le_of_lt, mod-eq_of_lt, mul-le-mul, one-mul, mul-add, arith, pow_pos, pow_mono}
 use lib.Ieee.{binary32, to_bits}
-use Rattle.units.proofs.Naturals.{le-or-lt}
 use Rattle.fixed.proofs.Take.{no_nan}
 use Rattle.powers.specs.Value.{steps_of, cut_of}
 use Rattle.powers.proofs.Taken.{pattern_small, steps_whole, cut_plus, cut_minus}
-use Rattle.powers.proofs.whole_cut.Goals.{Start}
+use Rattle.powers.proofs.whole_cut.Goals.{Start, then-b-lt2147483648, else-b-lt2147483648}
 use Rattle.powers.proofs.whole_cut.Goals as goal
 
 -- ---- over plain numbers: m digits, a power of two u, and what they make
@@ -16,14 +17,16 @@ module _ (m u : ℕ) (few : m ≤ 16777216) (low : 1 ≤ u) (high : u ≤ 32768)
   added : (126 * 4294967296 + m * u) % 2 ^ 64 ≡ 126 * 2 ^ 32 + m * u
   added = omega (arith, product)
 
-  taken_away : 8388608 ≤ m → (p : ℕ) → p < 4294967296 → (p + m) % 4294967296 ≡ 126 → m * u ≤ 126 * 2 ^ 32 → (p * 4294967296 + m * (4294967295 - u + 1)) % 2 ^ 64 ≡ 126 * 2 ^ 32 - m * u
-  taken_away first p word e h = omega (arith, both)
+  -- n is 2 ^ 32 less u
+  taken_away : 8388608 ≤ m → (p n : ℕ) → p < 4294967296 → (p + m) % 4294967296 ≡ 126 → n < 4294967296
+      → (n + u) % 4294967296 ≡ 0 → m * u ≤ 126 * 2 ^ 32 → (p * 4294967296 + m * n) % 2 ^ 64 ≡ 126 * 2 ^ 32 - m * u
+  taken_away first p n word e word' e' h = omega (arith, both)
     where
-      rest : 4294967295 - u + 1 + u ≡ 4294967296
+      rest : n + u ≡ 4294967296
       rest = omega arith
 
-      both : m * (4294967295 - u + 1) + m * u ≡ m * 4294967296
-      both = sym (mul-add m (4294967295 - u + 1) u) ∙ ap (λ (n : ℕ). m * n) rest
+      both : m * n + m * u ≡ m * 4294967296
+      both = sym (mul-add m n u) ∙ ap (λ (k : ℕ). m * k) rest
 
 -- ---- the program's
 module _ (c : Start) where
@@ -47,19 +50,25 @@ module _ (c : Start) where
 
   -- the digits at their place are the steps
   placed : m * 2 ^ s ≡ steps_of (b % 2147483648)
-  placed = sym (steps_whole (b % 2147483648) (let l = c.requires.1 in omega arith) ∙ ap (λ (n : ℕ). (n + 8388608) * 2 ^ s) same)
+  placed =
+      sym (steps_whole (b % 2147483648) (let l = c.requires.1 in omega arith)
+      ∙ ap (λ (n : ℕ). (n + 8388608) * 2 ^ s) same)
     where
       same : b % 2147483648 % 8388608 ≡ b % 8388608
       same = omega arith
 
-  cut : (p : ℕ) → p < 4294967296 → (p + m) % 4294967296 ≡ 126 → (cond (ltb b 2147483648) 126 p * 4294967296 + m * cond (ltb b 2147483648) (2 ^ s) (4294967295 - 2 ^ s + 1)) % 2 ^ 64 ≡ cut_of c.args.x
-  cut p word e = elim (le-or-lt 2147483648 b) [
-    | inl l ↦
-        let (room, value) = cut_minus c.args.x c.requires.0 l in
-        rw (le-ltb b 2147483648 l) (taken_away m (2 ^ s) (omega arith) (pow_pos s) high (omega arith) p word e (le_trans (le_of_eq placed) room) ∙ ap (λ (n : ℕ). 126 * 2 ^ 32 - n) placed ∙ value)
-    | inr l ↦
-        rw (lt-ltb b 2147483648 l) (added m (2 ^ s) (omega arith) (pow_pos s) high ∙ ap (λ (n : ℕ). 126 * 2 ^ 32 + n) placed ∙ cut_plus c.args.x c.requires.0 l)
-  ]
+  plus : b < 2147483648 → (126 * 4294967296 + m * (1 * 2 ^ s % 4294967296)) % 2 ^ 64 ≡ cut_of c.args.x
+  plus l =
+      rw unit (added m (2 ^ s) (omega arith) (pow_pos s) high)
+      ∙ ap (λ (n : ℕ). 126 * 2 ^ 32 + n) placed ∙ cut_plus c.args.x c.requires.0 l
+
+  minus : 2147483648 ≤ b → (p n : ℕ) → p < 4294967296 → (p + m) % 4294967296 ≡ 126 → n < 4294967296
+      → (n + 1 * 2 ^ s % 4294967296) % 4294967296 ≡ 0 → (p * 4294967296 + m * n) % 2 ^ 64 ≡ cut_of c.args.x
+  minus l p n word e word' e' =
+      let (room, value) = cut_minus c.args.x c.requires.0 l in
+      let fits : m * 2 ^ s ≤ 126 * 2 ^ 32 = le_trans (le_of_eq placed) room in
+      taken_away m (2 ^ s) (omega arith) (pow_pos s) high (omega arith) p n word e word' (rw unit at e') fits
+      ∙ ap (λ (n : ℕ). 126 * 2 ^ 32 - n) placed ∙ value
 
 pub float_to_bits-b : goal.float_to_bits-b
 float_to_bits-b c = no_nan c.args.x c.requires.0.number
@@ -67,16 +76,12 @@ float_to_bits-b c = no_nan c.args.x c.requires.0.number
 pub overflow_shl-u : goal.overflow_shl-u
 overflow_shl-u c = omega (arith, small c)
 
-pub overflow_add-u : goal.overflow_add-u
-overflow_add-u c = rw (unit c) (omega (arith, pow_pos (s c)))
-
-pub overflow_mul-m : goal.overflow_mul-m
-overflow_mul-m c =
-    let word : c.of_sign-unit.result ≤ 4294967295 = omega arith in
-    let digits : to_bits binary32 c.args.x % 8388608 + 8388608 ≤ 16777216 = omega arith in
-    omega (arith, mul-le-mul digits word)
-
 pub returns : goal.returns
 returns c =
-    let p = c.wrapping_sub_u32 in
-    c.wrapping_add_u64.ensures.value ∙ rw (c.of_sign-part.ensures, c.of_sign-unit.ensures, unit (goal.at.returns c).Start) (cut (goal.at.returns c).Start p.result (omega arith) p.ensures.value)
+    let v = (goal.at.returns c).Start in
+    rw (c.from.ensures, c.from-2.ensures, c.from-3.ensures) (elim c.if-b-lt2147483648.branch [
+      | then-b-lt2147483648 w ↦ rw w.part-is (plus v w.if-b-lt2147483648.true)
+      | else-b-lt2147483648 w ↦
+          let r = w.wrapping_neg in
+          rw w.part-is (minus v w.if-b-lt2147483648.false _ r.result (omega arith) (omega arith) r.type_inv r.ensures)
+    ])

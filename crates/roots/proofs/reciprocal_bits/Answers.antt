@@ -2,27 +2,37 @@
 use Rattle.std.proofs.Common.{ℕ, ◌+◌, ◌*◌, ◌<◌, sym, subst, arith}
 use Rattle.roots.specs.Value.{IsNearRecip, turned}
 use Rattle.roots.proofs.ReciprocalRoot.{evened, word_least, word_most, word_evened, pattern_in, rsqrt_bits_lem}
-use Rattle.roots.proofs.reciprocal_bits.Goals.{After-settle_reciprocal-h}
+use Rattle.roots.proofs.reciprocal_bits.Goals.{After-settle_reciprocal}
 use Rattle.roots.proofs.reciprocal_bits.Goals as goal
 
-pub settle_reciprocal-h-requires : goal.settle_reciprocal-h-requires
-settle_reciprocal-h-requires c =
-    let e = c.apart-p.result.e in
-    let a = c.apart-p.ensures in
+pub settle_reciprocal-requires : goal.settle_reciprocal-requires
+settle_reciprocal-requires c =
+    let e = c.apart-m.result.e in
+    let a = c.apart-m.ensures in
     (a.least, a.digits, word_least e, word_most e, c.reciprocal.ensures)
 
--- the digits that were settled
-settled : (c : After-settle_reciprocal-h) → IsNearRecip (evened c.apart-p.result.e) c.apart-p.result.m c.settle_reciprocal-h.result
-settled c =
-    subst (λ (t : ℕ). IsNearRecip t c.apart-p.result.m c.settle_reciprocal-h.result) (word_evened c.apart-p.result.e) c.settle_reciprocal-h.ensures
+module _ (c : After-settle_reciprocal) where
+  abbrev m : ℕ
+  m = c.apart-m.result.m
 
-in_pattern : (c : After-settle_reciprocal-h) → turned c.apart-p.result.e * 8388608 + c.settle_reciprocal-h.result < 255 * 8388608
-in_pattern c =
-    pattern_in c.args.x c.apart-p.result.m c.apart-p.result.e c.settle_reciprocal-h.result c.requires.above c.apart-p.ensures (settled c)
+  abbrev e : ℕ
+  e = c.apart-m.result.e
+
+  abbrev h : ℕ
+  h = c.settle_reciprocal.result
+
+  -- the digits that were settled
+  settled : IsNearRecip (evened e) m h
+  settled = subst (λ (t : ℕ). IsNearRecip t m h) (word_evened e) c.settle_reciprocal.ensures
+
+  in_pattern : turned e * 8388608 + h < 255 * 8388608
+  in_pattern = pattern_in c.args.x m e h c.requires.above c.apart-m.ensures settled
 
 pub overflow_add-result : goal.overflow_add-result
-overflow_add-result c = omega (arith, in_pattern (goal.at.overflow_add-result c).After-settle_reciprocal-h)
+overflow_add-result c = omega (arith, in_pattern (goal.at.overflow_add-result c).After-settle_reciprocal)
 
 pub returns : goal.returns
 returns c =
-    sym (rsqrt_bits_lem c.args.x c.apart-p.result.m c.apart-p.result.e c.settle_reciprocal-h.result c.requires.above c.apart-p.ensures (settled (goal.at.returns c).After-settle_reciprocal-h))
+    let near = settled (goal.at.returns c).After-settle_reciprocal in
+    sym (rsqrt_bits_lem c.args.x c.apart-m.result.m c.apart-m.result.e c.settle_reciprocal.result c.requires.above
+    c.apart-m.ensures near)

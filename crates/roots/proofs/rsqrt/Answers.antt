@@ -1,33 +1,30 @@
--- `roots::rsqrt` meets its promise: each return is an accepted float, or one that the tests show is not. Assumes nothing.
-use Rattle.std.proofs.Common.{T, sym, subst, not-le_of_lt, arith}
+-- `roots::rsqrt` meets its promise: each return is an accepted float, or one that the tests show is not.
+-- Assumes nothing.
+use Rattle.std.proofs.Common.{rules, T, sym, subst, ◌∙◌}
 use Rattle.units.specs.Units.{Positive}
-use Rattle.fixed.proofs.Take.{equal_to_itself, no_number}
+use Rattle.fixed.proofs.Take.{nan_is_none}
 use Rattle.roots.proofs.Range.{positive, positive_below, positive_above}
-use Rattle.roots.proofs.ReciprocalRoot.{success, refusal}
-use Rattle.roots.proofs.rsqrt.Goals.{Then-b-lt2139095040, else-b-gt0-via-then-b-gt0+else-b-lt2139095040, else-b-gt0-via-else-b-gt0}
+use Rattle.roots.proofs.ReciprocalRoot.{success, declines}
+use Rattle.roots.proofs.rsqrt.Goals.{Else-not-contains}
+use Rattle.roots.proofs.rsqrt.Goals.{then-is_nan-via-then-is_nan, then-is_nan-via-else-is_nan+then-not-contains}
 use Rattle.roots.proofs.rsqrt.Goals as goal
 
-pub returns-then-x : goal.returns-then-x
-returns-then-x c = refusal c.args.x (λ p. no_number c.args.x c.if-x.true p.number)
+pub returns-then-is_nan : goal.returns-then-is_nan
+returns-then-is_nan c =
+    let x = c.args.x in
+    declines x (λ p. elim c.then-is_nan.branch [
+      | then-is_nan-via-then-is_nan w ↦ nan_is_none x (sym c.is_nan.ensures.value ∙ w.if-is_nan.true) p.number
+      | then-is_nan-via-else-is_nan+then-not-contains w ↦
+          let above = positive_above x p in
+          let below = positive_below x p in
+          search rules
+    ])
 
-pub float_to_bits-b : goal.float_to_bits-b
-float_to_bits-b c = equal_to_itself c.args.x c.if-x.false
-
--- what both tests let through is a finite float above zero
-accepted : (c : Then-b-lt2139095040) → Positive c.args.x
-accepted c = positive c.args.x (subst T (sym c.well_formed.0.1) tt) (omega arith) c.if-b-lt2139095040.true
+accepted : (c : Else-not-contains) → Positive c.args.x
+accepted c = positive c.args.x (subst T (sym c.well_formed.0.1) tt) (search rules) (search rules)
 
 pub reciprocal_bits-requires : goal.reciprocal_bits-requires
-reciprocal_bits-requires c = accepted (goal.at.reciprocal_bits-requires c).Then-b-lt2139095040
-
-pub returns-then-b-lt2139095040 : goal.returns-then-b-lt2139095040
-returns-then-b-lt2139095040 c =
-    success c.args.x (accepted (goal.at.returns-then-b-lt2139095040 c).Then-b-lt2139095040) c.reciprocal_bits.ensures
+reciprocal_bits-requires c = accepted (goal.at.reciprocal_bits-requires c).Else-not-contains
 
 pub returns : goal.returns
-returns c =
-    let x = c.args.x in
-    refusal x (λ p. elim c.else-b-gt0.branch [
-      | else-b-gt0-via-then-b-gt0+else-b-lt2139095040 w ↦ not-le_of_lt (positive_below x p) w.if-b-lt2139095040.false
-      | else-b-gt0-via-else-b-gt0 w ↦ not-le_of_lt (positive_above x p) w.if-b-gt0.false
-    ])
+returns c = success c.args.x (accepted (goal.at.returns c).Else-not-contains) c.reciprocal_bits.ensures

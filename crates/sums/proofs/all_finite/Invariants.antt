@@ -1,12 +1,10 @@
--- `sums::all_finite` meets its contract. The loop's invariant: the elements passed are finite, so the rest decides. Assumes nothing.
-use mathlib.Core.Path.{◌≡◌}
-use Prim.Native.Nat.{◌-◌}
-use lib.ListN.{length, drop}
-use Rattle.sums.specs.Dot.{all_finite}
+-- `sums::all_finite` meets its contract. The loop's invariant: the elements passed are finite. Assumes nothing.
+use Prim.Native.Nat.{ℕ, ◌<◌}
+use lib.ListN.{get_or}
+use lib.Ieee.{nan}
+use Rattle.std.specs.Prelude.{IsTrue}
+use Rattle.std.specs.Float.{float_is_finite}
 use Rattle.sums.proofs.all_finite.Given as goal
 
-abbrev pub invariant-loop-k : goal.invariant-loop-k
-invariant-loop-k l = all_finite (drop l.k l.a) ≡ all_finite l.a
-
-abbrev pub decreases-loop-k : goal.decreases-loop-k
-decreases-loop-k l = length l.a - l.k
+abbrev pub invariant-loop-x : goal.invariant-loop-x
+invariant-loop-x l = (k : ℕ) → k < l.x-index → IsTrue (float_is_finite (get_or l.a k nan))

@@ -1,143 +1,121 @@
--- `weights::fill` meets its contract. The loop's invariant: the patterns written are those of the elements passed, and the rest is as it was. Assumes nothing.
-use mathlib.Core.Path.{◌≡◌, refl, sym, ap, ap₂, ◌∙◌, subst}
-use Prim.Native.Nat.{ℕ, ◌+◌, ◌*◌, ◌%◌, ◌^◌, ◌<◌}
-use native.Mathlib.Nat.{le_refl, le_trans, lt_of_lt_of_le, le_of_eq, mul-le-mul_right, ne_of_lt, ne_of_gt}
-use native.Mathlib.Omega.{arith}
-use lib.ListN.{length, get_or, set, length-set}
+-- `weights::fill` meets its contract. Assumes nothing.
+use Rattle.std.proofs.Common.{◌≡◌, List, ℕ, ◌+◌, ◌*◌, ◌%◌, ◌^◌, ◌<◌, length, sym, ap, ap₂, ◌∙◌, subst, le_trans}
+use Rattle.std.proofs.Common.{le_of_eq, lt_of_lt_of_le, mul-le-mul_right, arith, below_more}
+use native.Mathlib.Nat.{le_refl, ne_of_lt, ne_of_gt}
+use lib.ListN.{length-set}
 use lib.Seq.{get_or-set_same, get_or-set_other}
-use lib.Ieee.{nan}
-use borrow.Author.Count.{below_none, below_more}
+use lib.Ieee.{Float, nan}
+use Rattle.powers.specs.Base.{Base}
 use Rattle.powers.specs.Raised.{raised}
 use Rattle.powers.specs.Fixed.{fixed_digits, fixed_exponent}
 use Rattle.powers.proofs.Fixed.{digits_of, exponent_of_lem}
 use Rattle.weights.specs.Lists.{at}
 use Rattle.weights.specs.Softmax.{Element}
 use Rattle.weights.specs.Value.{power_at, unit_bits, weight_bits}
-use Rattle.weights.specs.Weight.{source_of}
+use Rattle.weights.specs.Weight.{source_of, HoldsDigits}
 use Rattle.weights.proofs.Range.{power_accepts, exponent_high}
 use Rattle.weights.proofs.Families.{is_map, member}
-use Rattle.weights.proofs.Source.{given_at, sized_still, still_at}
-use Rattle.weights.proofs.fill.Goals.{After-argument-a, After-digits, After-element, After-exponent, After-weight, In-loop-k, Start}
+use Rattle.weights.proofs.Source.{sized_still, still_at, holds_still}
+use Rattle.weights.proofs.fill.Given.{Over}
+use Rattle.weights.proofs.fill.Goals.{After-argument-a, After-digits, After-exponent, After-weight, In-loop-k}
 use Rattle.weights.proofs.fill.Goals as goal
 
-pub loop-k-init : goal.loop-k-init
-loop-k-init c = (omega arith, refl, below_none _, λ k h. refl)
+module _ (g : Over) where
+  abbrev base : Base
+  base = g.B.Base.base
 
--- the list as it was given, and its element at i, which is not yet written over
-within : (c : In-loop-k) → c.loop-k.k < length (source_of c.args.x.now c.args.p.now)
-within c = lt_of_lt_of_le c.loop-k-test.true (le_of_eq (sym c.requires.0))
+  abbrev list : g.row.S.Denot → List ℕ → List Float
+  list x p = source_of (g.S.Source.source x) p
 
-accepted : (c : In-loop-k) → Element (at (source_of c.args.x.now c.args.p.now) c.loop-k.k)
-accepted c = c.requires.2.each c.loop-k.k (within c)
+  -- the element k of the list as it was given, which is not yet written over
+  within : (c : In-loop-k g) → c.loop-k.k < length (list c.args.x c.args.p.now)
+  within c = lt_of_lt_of_le c.loop-k-test.true (le_of_eq (sym c.requires.judged.sized))
 
-unwritten : (c : In-loop-k) → at (source_of c.args.x.now c.loop-k.p) c.loop-k.k
-    ≡ at (source_of c.args.x.now c.args.p.now) c.loop-k.k
-unwritten c =
-    let inv = c.loop-k.invariant in
-    still_at c.args.x.now c.args.p.now c.loop-k.p inv.1 c.loop-k.k c.loop-k-test.true (inv.3 c.loop-k.k (le_refl _))
+  accepted : (c : In-loop-k g) → Element (at (list c.args.x c.args.p.now) c.loop-k.k)
+  accepted c = c.requires.judged.elements.each c.loop-k.k (within c)
 
-in_list : (c : In-loop-k) → c.loop-k.k < length c.loop-k.p
-in_list c = lt_of_lt_of_le c.loop-k-test.true (le_of_eq (sym c.loop-k.invariant.1))
+  here : (c : In-loop-k g) → at (list c.args.x c.loop-k.p) c.loop-k.k ≡ at (list c.args.x c.args.p.now) c.loop-k.k
+  here c =
+      let inv = c.loop-k.invariant in
+      still_at c.args.p.now c.loop-k.p inv.0 c.loop-k.k (inv.2 c.loop-k.k (le_refl _))
+      (g.S.Source.source c.args.x) c.loop-k-test.true
+
+  -- its power: the digits, which may have been kept
+  raised_is : (c : After-argument-a g) → let x = at (list c.args.x c.args.p.now) c.loop-k.k in
+      c.element.result ≡ x → raised (c.argument-a.result % 2 ^ 32) ≡ fixed_digits base x
+  raised_is c e = digits_of base c.element.result c.argument-a.ensures ∙ ap (fixed_digits base) e
+
+  digits : (c : After-digits g) → let x = at (list c.args.x c.args.p.now) c.loop-k.k in
+      c.element.result ≡ x → c.digits.result + 2 ^ 32 ≡ fixed_digits base x
+  digits c e = c.digits.ensures ∙ digits_of base c.element.result c.argument-a.ensures ∙ ap (fixed_digits base) e
+
+  -- and the exponent
+  exponent : (c : After-exponent g) → let x = at (list c.args.x c.args.p.now) c.loop-k.k in
+      c.element.result ≡ x → c.exponent.result ≡ fixed_exponent base x
+  exponent c e =
+      c.exponent.ensures ∙ exponent_of_lem base c.element.result c.argument-a.ensures ∙ ap (fixed_exponent base) e
+
+  -- its pattern
+  weight : (c : After-weight g) → let x = at (list c.args.x c.args.p.now) c.loop-k.k in
+      c.digits.result + 2 ^ 32 ≡ fixed_digits base x → c.exponent.result ≡ fixed_exponent base x
+      → c.weight.result ≡ weight_bits base c.args.factor.r c.args.factor.c x
+  unfolding weight_bits
+  weight c d e = c.weight.ensures ∙ ap₂ (λ (d e : ℕ). unit_bits (d * c.args.factor.r) (e + 115) c.args.factor.c) d e
 
 pub element-requires : goal.element-requires
-element-requires c =
-    let v = (goal.at.element-requires c).In-loop-k in (
-      sized_still c.args.x.now c.args.p.now c.loop-k.p c.loop-k.invariant.1 c.requires.0,
-      in_list v,
-      subst Element (sym (unwritten v)) (accepted v),
+element-requires g c =
+    let v = goal.at.element-requires g c in
+    let inv = c.loop-k.invariant in (
+      sized_still c.args.p.now c.loop-k.p inv.0 (g.S.Source.source c.args.x) c.requires.judged.sized,
+      omega (arith, inv.0),
+      subst Element (sym (here g v.In-loop-k)) (accepted g v.In-loop-k),
     )
-
-element : (c : After-element) → c.element.result ≡ at (source_of c.args.x.now c.args.p.now) c.loop-k.k
-element c =
-    let inv = c.loop-k.invariant in
-    c.element.ensures ∙ still_at c.args.x.now c.args.p.now c.loop-k.p inv.1 c.loop-k.k c.loop-k-test.true
-    (inv.3 c.loop-k.k (le_refl _))
 
 pub argument-a-requires : goal.argument-a-requires
-argument-a-requires c =
-    let v = goal.at.argument-a-requires c in
-    power_accepts _ (subst Element (sym (element v.After-element)) (accepted v.In-loop-k))
-
--- ---- its power: the digits, which were kept where x is another list
-raised_is : (c : After-argument-a) → c.element.result ≡ at (source_of c.args.x.now c.args.p.now) c.loop-k.k
-    → raised (c.argument-a.result % 2 ^ 32) ≡ fixed_digits c.args.natural (at (source_of c.args.x.now c.args.p.now) c.loop-k.k)
-raised_is c e =
-    let base = c.args.natural in
-    digits_of base c.element.result c.argument-a.ensures ∙ ap (fixed_digits base) e
+argument-a-requires g c =
+    let v = goal.at.argument-a-requires g c in
+    power_accepts _ (subst Element (sym (c.element.ensures ∙ here g v.In-loop-k)) (accepted g v.In-loop-k))
 
 pub digits-requires : goal.digits-requires
-digits-requires c =
-    let v = goal.at.digits-requires c in
-    let k = c.loop-k.k in (
-      in_list v.In-loop-k,
-      λ n. ap (λ (t : ℕ). t + 2 ^ 32) (c.loop-k.invariant.3 k (le_refl k)) ∙ c.requires.5 n k c.loop-k-test.true
-          ∙ sym (ap (fixed_digits c.args.natural) (given_at c.args.x.now c.args.p.now k n))
-          ∙ sym (raised_is v.After-argument-a (element v.After-element)),
+digits-requires g c =
+    let v = goal.at.digits-requires g c in
+    let inv = c.loop-k.invariant in
+    let k = c.loop-k.k in
+    let s = g.S.Source.source c.args.x in
+    let e = raised_is g v.After-argument-a (c.element.ensures ∙ here g v.In-loop-k) in (
+      omega (arith, inv.0),
+      holds_still c.args.p.now c.loop-k.p inv.0 k (inv.2 k (le_refl k)) s _
+          (subst (HoldsDigits s c.args.p.now k) (sym e) (c.requires.digits k c.loop-k-test.true)),
     )
-
-digits : (c : After-digits) → c.element.result ≡ at (source_of c.args.x.now c.args.p.now) c.loop-k.k
-    → c.digits.result + 2 ^ 32 ≡ fixed_digits c.args.natural (at (source_of c.args.x.now c.args.p.now) c.loop-k.k)
-digits c e =
-    let base = c.args.natural in
-    c.digits.ensures ∙ digits_of base c.element.result c.argument-a.ensures ∙ ap (fixed_digits base) e
-
--- and the exponent
-exponent : (c : After-exponent) → c.element.result ≡ at (source_of c.args.x.now c.args.p.now) c.loop-k.k
-    → c.exponent.result ≡ fixed_exponent c.args.natural (at (source_of c.args.x.now c.args.p.now) c.loop-k.k)
-exponent c e =
-    let base = c.args.natural in
-    c.exponent.ensures ∙ exponent_of_lem base c.element.result c.argument-a.ensures ∙ ap (fixed_exponent base) e
 
 pub weight-requires : goal.weight-requires
-weight-requires c =
-    let base = c.args.natural in
-    let xs = source_of c.args.x.now c.args.p.now in
-    let v = goal.at.weight-requires c in
-    let e = element v.After-element in
-    rw (exponent v.After-exponent e, digits v.After-digits e) (
-      exponent_high _ (accepted v.In-loop-k) base,
-      c.requires.3,
-      le_trans (mul-le-mul_right c.args.r (member (power_at base xs) (length xs) c.loop-k.k (within v.In-loop-k))) c.requires.4,
+weight-requires g c =
+    let v = goal.at.weight-requires g c in
+    let l = list g c.args.x c.args.p.now in
+    let e = c.element.ensures ∙ here g v.In-loop-k in
+    let m = member (power_at (base g) l) (length l) c.loop-k.k (within g v.In-loop-k) in
+    rw (exponent g v.After-exponent e, digits g v.After-digits e) (
+      exponent_high _ (accepted g v.In-loop-k) (base g),
+      le_trans (mul-le-mul_right c.args.factor.r m) c.requires.at_most_one,
     )
 
--- ---- its pattern
-weight : (c : After-weight)
-    → c.digits.result + 2 ^ 32 ≡ fixed_digits c.args.natural (at (source_of c.args.x.now c.args.p.now) c.loop-k.k)
-    → c.exponent.result ≡ fixed_exponent c.args.natural (at (source_of c.args.x.now c.args.p.now) c.loop-k.k)
-    → c.weight.result ≡ weight_bits c.args.natural c.args.r c.args.c (at (source_of c.args.x.now c.args.p.now) c.loop-k.k)
-unfolding weight_bits
-weight c d e = c.weight.ensures ∙ ap₂ (λ (d e : ℕ). unit_bits (d * c.args.r) (e + 115) c.args.c) d e
-
-pub offset_bounds-p-i : goal.offset_bounds-p-i
-offset_bounds-p-i c = omega (arith, c.loop-k-test.true, c.requires.1)
-
-pub bounds-p-i : goal.bounds-p-i
-bounds-p-i c = in_list (goal.at.bounds-p-i c).In-loop-k
-
 pub loop-k-preserved : goal.loop-k-preserved
-loop-k-preserved c =
-    let xs = source_of c.args.x.now c.args.p.now in
-    let v = goal.at.loop-k-preserved c in
-    let e = element v.After-element in
+loop-k-preserved g c =
+    let v = goal.at.loop-k-preserved g c in
     let inv = c.loop-k.invariant in
     let p = c.loop-k.p in
     let i = c.loop-k.k in
-    let b = c.weight.result in (
-      omega (arith, c.loop-k-test.true),
-      length-set p i b ∙ inv.1,
-      below_more (λ k. get_or (set p i b) k 0 ≡ weight_bits c.args.natural c.args.r c.args.c (at xs k)) i
-          (λ k h. get_or-set_other p i k b 0 (ne_of_lt h) ∙ inv.2 k h)
-          (get_or-set_same p i b 0 (in_list v.In-loop-k)
-          ∙ weight v.After-weight (digits v.After-digits e) (exponent v.After-exponent e)),
-      λ k h. get_or-set_other p i k b 0 (ne_of_gt (omega arith)) ∙ inv.3 k (omega arith),
+    let b = c.weight.result in
+    let e = c.element.ensures ∙ here g v.In-loop-k in
+    let w = weight g v.After-weight (digits g v.After-digits e) (exponent g v.After-exponent e) in (
+      length-set p i b ∙ inv.0,
+      below_more _ i (λ k h. get_or-set_other p i k b 0 (ne_of_lt h) ∙ inv.1 k h)
+          (get_or-set_same p i b 0 (omega (arith, inv.0)) ∙ w),
+      λ k h. get_or-set_other p i k b 0 (ne_of_gt (omega arith)) ∙ inv.2 k (omega arith),
     )
 
-pub shape_of-p : goal.shape_of-p
-shape_of-p c = c.loop-k.invariant.1
-
 pub returns : goal.returns
-returns c =
+returns g c =
     let inv = c.loop-k.invariant in
-    let xs = source_of c.args.x.now c.args.p.now in
-    is_map (weight_bits c.args.natural c.args.r c.args.c) nan 0 xs c.loop-k.p (inv.1 ∙ sym c.requires.0)
-    (λ i h. inv.2 i (omega (arith, c.requires.0, c.loop-k-test.false)))
+    is_map _ nan 0 (list g c.args.x c.args.p.now) c.loop-k.p (inv.0 ∙ sym c.requires.judged.sized)
+    (λ i h. inv.1 i (omega (arith, c.requires.judged.sized, c.loop-k-test.false)))

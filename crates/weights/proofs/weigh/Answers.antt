@@ -1,76 +1,60 @@
--- `weights::weigh` meets its contract: each return is an accepted list with its weights, or a list that the tests show is refused. Assumes nothing.
-use borrow.Author.Tests.{not-true, not-false}
-use mathlib.Core.Path.{◌≡◌, sym, ap, ap₂, ◌∙◌}
-use mathlib.Core.List.{List, map}
-use Prim.Native.Nat.{ℕ, ◌≤◌}
-use native.Mathlib.Nat.{le_trans, le_of_eq}
-use native.Mathlib.Omega.{arith}
-use lib.ListN.{length}
+-- `weights::weigh` meets its contract: each return is an accepted list with its weights, or a list that the tests
+-- show is refused. Assumes nothing.
+use Rattle.std.proofs.Common.{List, ℕ, map, length, sym, ap, ap₂, subst, ◌∙◌, arith}
+use Rattle.std.specs.Range.{range_inclusive_start, range_inclusive_end}
+use Rattle.std.proofs.lemmas.Map.Keys.{le_from_is_le}
 use lib.Ieee.{Float}
-use Rattle.weights.specs.Softmax.{Lengths, Accepts}
+use Rattle.powers.specs.Base.{Base}
+use Rattle.weights.specs.Softmax.{Elements, Accepts}
 use Rattle.weights.specs.Value.{weight_bits}
 use Rattle.weights.specs.Weight.{source_of}
-use Rattle.weights.proofs.Scaled.{scaling, inverse}
-use Rattle.weights.proofs.Promise.{weighed, refused_lengths, refused_element}
-use Rattle.weights.proofs.weigh.Goals.{Else-not-j}
+use Rattle.weights.proofs.Scaled.{inverse}
+use Rattle.weights.proofs.Promise.{weighed}
+use Rattle.weights.proofs.weigh.Given.{Over}
+use Rattle.weights.proofs.weigh.Goals.{After-scale-factor}
 use Rattle.weights.proofs.weigh.Goals as goal
 
--- ---- refused by its length
-pub returns-then-p-eq0 : goal.returns-then-p-eq0
-returns-then-p-eq0 c =
-    refused_lengths c.args.natural (source_of c.args.x.now c.args.p.now) (length c.args.p.now)
-    (λ l. omega (arith, l.same, l.least, c.if-p-eq0.true))
+module _ (g : Over) where
+  abbrev base : Base
+  base = g.B.Base.base
 
-pub returns-then-p-gt1024 : goal.returns-then-p-gt1024
-returns-then-p-gt1024 c =
-    refused_lengths c.args.natural (source_of c.args.x.now c.args.p.now) (length c.args.p.now)
-    (λ l. omega (arith, l.same, l.most, c.if-p-gt1024.true))
+  abbrev list : g.row.S.Denot → List ℕ → List Float
+  list x p = source_of (g.S.Source.source x) p
 
--- ---- the list behind the tests of its length
-lengths : (xs : List Float) (n : ℕ) → length xs ≡ n → (n ≡ 0 → ⊥) → n ≤ 1024 → Lengths xs n
-lengths xs n same some few = record { same = same; least = omega arith; most = omega arith }
-
--- ---- refused by an element
-pub returns-then-not-j : goal.returns-then-not-j
-returns-then-not-j c =
-    refused_element c.args.natural (source_of c.args.x.now c.args.p.now) (length c.args.p.now)
-    (lengths _ _ c.requires c.if-p-eq0.false c.if-p-gt1024.false)
-    (c.judge-j.ensures.tells.if_false (not-true c.judge-j.result.ok c.if-not-j.true))
-
--- ---- accepted
-accepts : (c : Else-not-j) → Accepts (source_of c.args.x.now c.args.p.now) (length c.args.p.now)
-accepts c = record {
-  lengths = lengths _ _ c.requires c.if-p-eq0.false c.if-p-gt1024.false;
-  elements = c.judge-j.ensures.tells.if_true (not-false c.judge-j.result.ok c.if-not-j.false);
-}
-
-pub scale-s-requires : goal.scale-s-requires
-scale-s-requires c =
-    let a = accepts (goal.at.scale-s-requires c).Else-not-j in (
-      c.requires,
-      omega (arith, a.lengths.same, a.lengths.least),
-      c.if-p-gt1024.false,
-      a.elements,
-      c.judge-j.ensures.found (not-false c.judge-j.result.ok c.if-not-j.false),
-    )
+  accepts : (c : After-scale-factor g) → Accepts (list c.args.x c.args.p.now) (length c.args.p.now)
+  accepts c = record {
+    lengths =
+        let h = c.if-not-contains.ensures.cases in
+        let n = length c.args.p.now in
+        let least = le_from_is_le (range_inclusive_start c.new.result) n h.0 in
+        let most = le_from_is_le n (range_inclusive_end c.new.result) h.1 in
+        record {
+          same = c.requires;
+          least = omega (arith, least, c.requires, c.new.ensures.start);
+          most = omega (arith, most, c.requires, c.new.ensures.end);
+        };
+    elements = c.in_ok-top.ensures.0;
+  }
 
 pub fill-requires : goal.fill-requires
-fill-requires c =
-    let xs = source_of c.args.x.now c.args.p.now in
-    let a = accepts (goal.at.fill-requires c).Else-not-j in
-    let f = c.scale-s.ensures in
-    let k = f.2 in
-    rw (f.0, f.1, k.source) (
-      c.requires ∙ sym k.same,
-      le_trans (le_of_eq k.same) c.if-p-gt1024.false,
-      a.elements,
-      scaling c.args.natural xs a.elements a.lengths.least a.lengths.most,
-      (inverse c.args.natural xs a.elements a.lengths.least a.lengths.most).most,
-      k.digits,
-    )
+fill-requires g c =
+    let a = accepts g (goal.at.fill-requires g c).After-scale-factor in
+    let f = c.scale-factor.ensures in
+    let k = f.kept in
+    let i = inverse (base g) _ a.elements a.lengths.least a.lengths.most in
+    record {
+      judged = record {
+        sized = ap length k.source ∙ c.requires ∙ sym k.same;
+        few = omega (arith, k.same, a.lengths.most, c.requires);
+        elements = subst Elements (sym k.source) a.elements;
+      };
+      digits = k.digits;
+      at_most_one = rw (f.factor, f.places, k.source) i.most;
+    }
 
 pub returns : goal.returns
-returns c =
-    let e = c.scale-s.ensures in
-    weighed c.args.natural (source_of c.args.x.now c.args.p.now) (length c.args.p.now) (accepts (goal.at.returns c).Else-not-j)
-    (c.fill.ensures ∙ ap (map _) e.2.source ∙ ap₂ (λ (r k : ℕ). map (weight_bits c.args.natural r k) (source_of c.args.x.now c.args.p.now)) e.0 e.1)
+returns g c =
+    let xs = list g c.args.x c.args.p.now in
+    let e = c.scale-factor.ensures in
+    weighed (base g) xs (length c.args.p.now) (accepts g (goal.at.returns g c).After-scale-factor)
+    (c.fill.ensures ∙ ap (map _) e.kept.source ∙ ap₂ (λ (r k : ℕ). map (weight_bits (base g) r k) xs) e.factor e.places)

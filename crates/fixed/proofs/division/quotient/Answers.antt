@@ -1,7 +1,6 @@
 -- `fixed::division::quotient` meets its contract: both shifted, two digits. Assumes nothing.
 use borrow.Author.Rules.{rules}
 use Prim.Native.Nat.{◌*◌, ◌%◌, ◌^◌}
-use native.Mathlib.Omega.{arith}
 use lib.Count.{count_leading_zeros}
 use lib.Pow.{pow_pos}
 use Rattle.fixed.proofs.Dividing.{Shifted, shifted, two_digits, unshifted}
@@ -9,15 +8,6 @@ use Rattle.fixed.proofs.division.quotient.Goals as goal
 
 both : (c : goal.Start) → Shifted c.args.n c.args.d (count_leading_zeros 32 c.args.d)
 both c = shifted c.args.n c.args.d c.ranges.d.fits c.requires
-
-pub overflow_shl-v : goal.overflow_shl-v
-overflow_shl-v c = omega (arith, (both c).small)
-
-pub overflow_cast-m : goal.overflow_cast-m
-overflow_cast-m c = omega (arith, (both c).small)
-
-pub overflow_shl-m : goal.overflow_shl-m
-overflow_shl-m c = omega (arith, (both c).small)
 
 pub digit-h-requires : goal.digit-h-requires
 digit-h-requires c = let b = both c in rw (b.divisor, b.number) (b.top, b.less, search rules)
@@ -31,4 +21,5 @@ returns c =
     let b = both start in
     let z = count_leading_zeros 32 start.args.d in
     unshifted start.args.n start.args.d (2 ^ z) _ c.digit-l.result.r (pow_pos z)
-    (rw (b.divisor, b.number) at (two_digits (start.args.n * 2 ^ z % 2 ^ 64) (start.args.d * 2 ^ z % 2 ^ 32) _ _ _ _ c.digit-h.ensures.0 c.digit-l.ensures.0))
+    (rw (b.divisor, b.number) at
+    (two_digits (start.args.n * 2 ^ z % 2 ^ 64) (start.args.d * 2 ^ z % 2 ^ 32) _ _ _ _ c.digit-h.ensures.0 c.digit-l.ensures.0))

@@ -1,18 +1,39 @@
--- `loudness::fitted::step` meets its promise. Assumes nothing.
-use Rattle.loudness.proofs.Stepping.{chosen_fits, chosen_six, as_chosen, as_other, as_failed}
+-- `loudness::fitted::step` meets its promise, by the words that were chosen. Assumes nothing.
+use Rattle.std.proofs.Common.{refl, inl, inr, arith}
+use Rattle.std.proofs.lemmas.Result.{err_from_is_err_and}
+use Rattle.units.specs.declared.refusal.Refusal.TheVariants.{OutOfRange, BadChannel}
+use Rattle.units.proofs.Answers.{written, untouched, ok, err}
+use Rattle.loudness.specs.Words.{step_in}
+use Rattle.loudness.proofs.Sizes.{up_to_one}
+use Rattle.loudness.proofs.Stepping.{by_words}
 use Rattle.loudness.proofs.fitted.step.Goals as goal
 
-pub slice_bounds-straight-end : goal.slice_bounds-straight-end
-slice_bounds-straight-end c = chosen_fits _ _ _ c.chosen-at.ensures c.if-at-le6.true
+pub returns-in_err-words : goal.returns-in_err-words
+returns-in_err-words c =
+    let r = c.from_residual-in_err-words in
+    let (e, is, from) = err_from_is_err_and r.result r.ensures.1 in
+    let (bad, none) = c.in_err-words.ensures in
+    let answered = untouched {before = 0} 4 0 (λ z. omega arith) (record { how = inl (refl, none) }) in
+    rw (is, from, bad) (err {before = 0} BadChannel (by_words _ _ c.in_ok-chosen.ensures answered))
 
-pub straight-requires : goal.straight-requires
-straight-requires c = chosen_six c.args.w.now _ _ c.chosen-at.ensures c.if-at-le6.true
+pub returns-in_err-p : goal.returns-in_err-p
+returns-in_err-p c =
+    let r = c.from_residual-in_err-p in
+    let (e, is, from) = err_from_is_err_and r.result r.ensures.1 in
+    let (bad, none) = c.in_err-p.ensures in
+    let passes = c.in_ok-words.ensures.1 in
+    let answered = untouched {before = 0} 1 0 (λ z. omega arith) (record { how = inr (inl (refl, passes, none)) }) in
+    rw (is, from, bad) (err {before = 0} OutOfRange (by_words _ _ c.in_ok-chosen.ensures answered))
 
-pub returns-then-at-le6 : goal.returns-then-at-le6
-returns-then-at-le6 c = as_chosen c.args.w.now _ c.chosen-at.ensures c.if-at-le6.true c.straight.ensures
-
-pub returns-then-at-eq7 : goal.returns-then-at-eq7
-returns-then-at-eq7 c = as_other _ _ _ c.chosen-at.ensures c.if-at-eq7.true
+pub fixed_bits-requires : goal.fixed_bits-requires
+fixed_bits-requires c = omega (arith, c.in_ok-p.ensures.1, up_to_one c.in_ok-p.ensures.0)
 
 pub returns : goal.returns
-returns c = as_failed _ _ _ c.chosen-at.ensures c.if-at-le6.false c.if-at-eq7.false
+unfolding step_in
+returns c =
+    let (same, passes) = c.in_ok-words.ensures in
+    let (envelope, p) = c.in_ok-p.ensures in
+    ok {before = 0}
+    (by_words _ _ c.in_ok-chosen.ensures
+    (written _ (record { how = inr (inr (refl, passes, envelope, refl)) })
+    (rw (c.threshold.ensures.0, c.steps.ensures.0, c.rise.ensures, c.fixed_bits.ensures, same, p))))

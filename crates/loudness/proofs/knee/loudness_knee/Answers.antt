@@ -1,31 +1,43 @@
--- `loudness::knee::loudness_knee` meets its promise. Assumes nothing.
-use Rattle.loudness.specs.Knee.{BentChannel}
-use Rattle.loudness.proofs.Bent.{success, refusal, no_channel}
-use Rattle.loudness.proofs.knee.loudness_knee.Goals.{Then-is_channel-2}
+-- `loudness::knee::loudness_knee` meets its promise: the value lies in one of two segments. Assumes nothing.
+use Rattle.std.proofs.Common.{◌∙◌, ap, sym}
+use Rattle.std.proofs.lemmas.Result.{err_from_is_err_and}
+use Rattle.units.specs.declared.refusal.Refusal.TheVariants.{OutOfRange, BadChannel}
+use Rattle.units.proofs.Answers.{ok, err}
+use Rattle.fixed.proofs.Take.{no_nan}
+use Rattle.loudness.specs.Value.{step_of}
+use Rattle.loudness.specs.declared.channel.Channel.{Channel}
+use Rattle.loudness.proofs.Known.{high_sound}
+use Rattle.loudness.proofs.Sizes.{up_to, past}
+use Rattle.loudness.proofs.Bent.{knee_below, knee_above, success, refusal, no_channel}
 use Rattle.loudness.proofs.knee.loudness_knee.Goals as goal
 
--- both channels were found good
-channel : (c : Then-is_channel-2) → let s = c.args in BentChannel s.top s.b s.k s.m s.t s.s s.c
-channel c = record { lower = c.is_channel.ensures.if_true c.if-is_channel.true; upper = c.is_channel-then-is_channel.ensures.if_true c.if-is_channel-2.true }
+pub returns-in_err-lower : goal.returns-in_err-lower
+returns-in_err-lower c =
+    let (e, is, from) = err_from_is_err_and c.from_residual.result c.from_residual.ensures.1 in
+    let (bad, none) = c.in_err-lower.ensures in
+    rw (is, from, bad) (err {before = 0} BadChannel (no_channel _ _ _ _ _ _ _ _ none))
 
-pub bent_step-requires : goal.bent_step-requires
-bent_step-requires c =
-    let at = goal.at.bent_step-requires c in
-    (channel at.Then-is_channel-2, c.is_envelope.ensures.if_true c.if-is_envelope.true)
+pub returns-in_err-p : goal.returns-in_err-p
+returns-in_err-p c =
+    let (e, is, from) = err_from_is_err_and c.from_residual-in_err-p.result c.from_residual-in_err-p.ensures.1 in
+    let (bad, none) = c.in_err-p.ensures in
+    rw (is, from, bad) (err {before = 0} OutOfRange (refusal _ _ _ _ _ _ _ _ c.in_ok-lower.ensures.2 none))
 
-pub returns-then-is_envelope : goal.returns-then-is_envelope
-returns-then-is_envelope c =
-    let at = goal.at.returns-then-is_envelope c in
-    success _ _ _ _ _ _ _ _ (channel at.Then-is_channel-2) (c.is_envelope.ensures.if_true c.if-is_envelope.true)
-    c.bent_step.ensures
+pub float_to_bits-channel : goal.float_to_bits-channel
+float_to_bits-channel c = no_nan _ c.in_ok-lower.ensures.2.lower.levels.m_number
 
-pub returns-then-is_channel-2 : goal.returns-then-is_channel-2
-returns-then-is_channel-2 c =
-    let at = goal.at.returns-then-is_channel-2 c in
-    refusal _ _ _ _ _ _ _ _ (channel at.Then-is_channel-2) (c.is_envelope.ensures.if_false c.if-is_envelope.false)
-
-pub returns-then-is_channel : goal.returns-then-is_channel
-returns-then-is_channel c = no_channel _ _ _ _ _ _ _ _ (λ h. c.is_channel-then-is_channel.ensures.if_false c.if-is_channel-2.false h.upper)
+pub returns-then-p-channel : goal.returns-then-p-channel
+returns-then-p-channel c =
+    let (low, high, channel) = c.in_ok-lower.ensures in
+    let (envelope, p) = c.in_ok-p.ensures in
+    let below = up_to envelope (high_sound channel.lower.levels) (rw p at c.if-p-channel.true) in
+    ok {before = 0} (success _ _ _ _ _ _ _ _ channel envelope
+    (c.step.ensures ∙ ap (λ (s : Channel). step_of s.b s.m s.t s.c c.args.a) low ∙ sym (knee_below _ _ _ _ _ _ _ below)))
 
 pub returns : goal.returns
-returns c = no_channel _ _ _ _ _ _ _ _ (λ h. c.is_channel.ensures.if_false c.if-is_channel.false h.lower)
+returns c =
+    let (low, high, channel) = c.in_ok-lower.ensures in
+    let (envelope, p) = c.in_ok-p.ensures in
+    let above = past envelope (high_sound channel.lower.levels) (rw p at c.if-p-channel.false) in
+    ok {before = 0} (success _ _ _ _ _ _ _ _ channel envelope
+    (c.step-2.ensures ∙ ap (λ (s : Channel). step_of s.b s.m s.t s.c c.args.a) high ∙ sym (knee_above _ _ _ _ _ _ _ above)))

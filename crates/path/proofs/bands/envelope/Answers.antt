@@ -11,14 +11,15 @@ use Rattle.path.proofs.bands.envelope.Goals as goal
 pub float_from_bits-result : goal.float_from_bits-result
 float_from_bits-result c = readable 1065353216 (lit≤ tt)
 
-pub returns-then-s-ge72057594037927936 : goal.returns-then-s-ge72057594037927936
-returns-then-s-ge72057594037927936 c = ap (of_bits binary32) (full_bits c.args.s c.if-s-ge72057594037927936.true)
+pub returns-then-s-ge-FULL : goal.returns-then-s-ge-FULL
+returns-then-s-ge-FULL c = ap (of_bits binary32) (full_bits c.args.s c.if-s-ge-FULL.true)
 
 pub nearest_bits-requires : goal.nearest_bits-requires
 nearest_bits-requires c = normal c.args.s
 
-pub float_from_bits-result-2 : goal.float_from_bits-result-2
-float_from_bits-result-2 c = subst (λ (b : ℕ). T (not (nan_bits binary32 b))) (sym c.nearest_bits.ensures) (part_readable c.args.s c.if-s-ge72057594037927936.false)
+pub float_from_bits-result-else-s-ge-FULL : goal.float_from_bits-result-else-s-ge-FULL
+float_from_bits-result-else-s-ge-FULL c =
+    subst (λ (b : ℕ). T (not (nan_bits binary32 b))) (sym c.nearest_bits.ensures) (part_readable c.args.s c.if-s-ge-FULL.false)
 
-pub returns : goal.returns
-returns c = ap (of_bits binary32) (c.nearest_bits.ensures ∙ part_bits c.args.s c.if-s-ge72057594037927936.false)
+pub returns-else-s-ge-FULL : goal.returns-else-s-ge-FULL
+returns-else-s-ge-FULL c = ap (of_bits binary32) (c.nearest_bits.ensures ∙ part_bits c.args.s c.if-s-ge-FULL.false)

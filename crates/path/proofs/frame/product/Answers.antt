@@ -49,23 +49,23 @@ w-set c l = set c.args.w c.requires.1.number (rw c.number_bits-b.ensures at l)
 pub overflow_add-result : goal.overflow_add-result
 overflow_add-result c = omega (arith, least c.before.before)
 
-pub returns-then-b-lt2147483648 : goal.returns-then-b-lt2147483648
-returns-then-b-lt2147483648 c = let a = c.before.before in worded a false false (x-clear a c.if-a-lt2147483648.true) (w-clear a c.if-b-lt2147483648.true)
+pub returns-then-b-lt-SIGN : goal.returns-then-b-lt-SIGN
+returns-then-b-lt-SIGN c = let a = c.before.before in worded a false false (x-clear a c.if-a-lt-SIGN.true) (w-clear a c.if-b-lt-SIGN.true)
 
 pub overflow_sub-result : goal.overflow_sub-result
 overflow_sub-result c = omega (arith, least c.before.before)
 
-pub returns-then-a-lt2147483648 : goal.returns-then-a-lt2147483648
-returns-then-a-lt2147483648 c = let a = c.before.before in worded a false true (x-clear a c.if-a-lt2147483648.true) (w-set a c.if-b-lt2147483648.false)
+pub returns-then-a-lt-SIGN : goal.returns-then-a-lt-SIGN
+returns-then-a-lt-SIGN c = let a = c.before.before in worded a false true (x-clear a c.if-a-lt-SIGN.true) (w-set a c.if-b-lt-SIGN.false)
 
-pub overflow_sub-result-then-b-lt2147483648-2 : goal.overflow_sub-result-then-b-lt2147483648-2
-overflow_sub-result-then-b-lt2147483648-2 c = omega (arith, least c.before.before)
+pub overflow_sub-result-then-b-lt-SIGN-2 : goal.overflow_sub-result-then-b-lt-SIGN-2
+overflow_sub-result-then-b-lt-SIGN-2 c = omega (arith, least c.before.before)
 
-pub returns-then-b-lt2147483648-2 : goal.returns-then-b-lt2147483648-2
-returns-then-b-lt2147483648-2 c = let a = c.before.before in worded a true false (x-set a c.if-a-lt2147483648.false) (w-clear a c.if-b-lt2147483648-2.true)
+pub returns-then-b-lt-SIGN-2 : goal.returns-then-b-lt-SIGN-2
+returns-then-b-lt-SIGN-2 c = let a = c.before.before in worded a true false (x-set a c.if-a-lt-SIGN.false) (w-clear a c.if-b-lt-SIGN-2.true)
 
 pub overflow_add-result-2 : goal.overflow_add-result-2
 overflow_add-result-2 c = omega (arith, least c.before.before)
 
 pub returns : goal.returns
-returns c = let a = c.before.before in worded a true true (x-set a c.if-a-lt2147483648.false) (w-set a c.if-b-lt2147483648-2.false)
+returns c = let a = c.before.before in worded a true true (x-set a c.if-a-lt-SIGN.false) (w-set a c.if-b-lt-SIGN-2.false)

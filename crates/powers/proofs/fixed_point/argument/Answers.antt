@@ -1,17 +1,6 @@
--- `powers::fixed_point::argument` meets its contract: each base has its own cut. Assumes nothing.
-use Rattle.std.proofs.Common.{sym, ap, ◌∙◌}
-use Rattle.powers.specs.Base.{Base}
-use Rattle.powers.specs.Fixed.{argument_of}
-use Rattle.powers.proofs.Base.{accepts}
+-- `fixed_point::argument` meets its contract: either base accepts what e ^ x accepts. Assumes nothing.
+use Rattle.powers.proofs.Either.{by_both}
 use Rattle.powers.proofs.fixed_point.argument.Goals as goal
 
-pub cut_off-requires-else-natural : goal.cut_off-requires-else-natural
-cut_off-requires-else-natural c = accepts c.requires
-
-pub returns-then-natural : goal.returns-then-natural
-unfolding argument_of
-returns-then-natural c = c.cut_off.ensures ∙ ap (λ (base : Base). argument_of base c.args.x) (sym c.if-natural.true)
-
-pub returns-else-natural : goal.returns-else-natural
-unfolding argument_of
-returns-else-natural c = c.cut_off-else-natural.ensures ∙ ap (λ (base : Base). argument_of base c.args.x) (sym c.if-natural.false)
+pub argument-requires : goal.argument-requires
+argument-requires g c = by_both g.B.Base.base c.requires

@@ -1,19 +1,25 @@
--- `powers::natural::exp` meets its promise: the test tells whether x is accepted. Assumes nothing.
-use Rattle.std.proofs.Common.{ap, ◌∙◌, le_trans, le_of_eq}
-use Rattle.powers.specs.Value.{rounded_power}
+-- `natural::exp` meets its promise: the test tells whether x is accepted. Assumes nothing.
+use Rattle.std.proofs.Common.{refl, ◌∙◌, le_trans, le_of_eq, arith}
+use Rattle.units.proofs.Answers.{ok}
+use Rattle.powers.specs.Exp.{Accepts}
+use Rattle.powers.specs.Fixed.{argument_of}
+use Rattle.powers.specs.Value.{rounded_power, power_digits}
 use Rattle.powers.proofs.NaturalTaken.{natural_top}
-use Rattle.powers.proofs.NaturalPromise.{success, refusal}
+use Rattle.powers.proofs.NaturalPromise.{success}
+use Rattle.powers.proofs.natural.exp.Goals.{After-argument}
 use Rattle.powers.proofs.natural.exp.Goals as goal
 
-pub cut_off-requires : goal.cut_off-requires
-cut_off-requires c = c.in_range.ensures.if_true c.if-in_range.true
+accepted : (c : After-argument) → Accepts c.args.x
+accepted c = c.in_range.ensures.if_true c.if-not-in_range.false
 
-pub rounded-requires : goal.rounded-requires
-rounded-requires c = le_trans (le_of_eq c.cut_off.ensures) (natural_top c.args.x (cut_off-requires c.before))
-
-pub returns-then-in_range : goal.returns-then-in_range
-returns-then-in_range c =
-    success c.args.x (cut_off-requires c.before.before) (c.rounded.ensures ∙ ap rounded_power c.cut_off.ensures)
+pub bits-requires : goal.bits-requires
+unfolding argument_of
+bits-requires c =
+    let a = accepted (goal.at.bits-requires c).After-argument in
+    omega (arith, c.of.ensures.1, le_trans (le_of_eq c.argument.ensures) (natural_top c.args.x a))
 
 pub returns : goal.returns
-returns c = refusal c.args.x (c.in_range.ensures.if_false c.if-in_range.false)
+unfolding argument_of rounded_power power_digits
+returns c =
+    ok {before = 0} (success c.args.x (accepted (goal.at.returns c).After-argument)
+    (c.bits.ensures ∙ rw (c.of.ensures.0, c.of.ensures.1, c.argument.ensures) refl))

@@ -3,10 +3,9 @@ use mathlib.Core.Path.{refl, sym, ◌∙◌, subst}
 use Prim.Native.Nat.{ℕ, ◌+◌, ◌*◌, ◌/◌, ◌^◌, ◌<◌}
 use native.Mathlib.Omega.{arith}
 use lib.ListN.{length}
-use lib.Pow.{pow_pos}
 use lib.Seq.{length-take-le}
 use Rattle.spectrum.specs.Words.{Fillable}
-use Rattle.spectrum.proofs.Blocks.{half_fits, shorter, rest_shorter, rest_half, mid_length, fillable, leaf_filled, deeper, few, inside, some_words, around, four_times, all_inside, first_four, second_four, twice_length, first_length, second_length, first_half, second_half, both_filled, twice}
+use Rattle.spectrum.proofs.Blocks.{half_fits, shorter, rest_shorter, rest_half, mid_length, fillable, leaf_filled, deeper, few, inside, four_times, all_inside, first_four, second_four, twice_length, first_length, second_length, first_half, second_half, both_filled, twice}
 use Rattle.spectrum.proofs.words.+fill.Goals as goal
 
 pub returns-then-n-eq4 : goal.returns-then-n-eq4
@@ -47,8 +46,6 @@ combine-requires t c =
     let b = few (2 ^ d.s) c.args.st d.apart in
     let first = first_four l l₁ l₂ (length l / 2) f k₁ k₂ (2 ^ d.s) d.size refl in
     let second = second_four l l₁ l₂ (length l / 2) f k₁ k₂ (2 ^ d.s) d.size refl in (
-      some_words l (2 ^ d.s) d.size (pow_pos d.s),
-      around l (2 ^ d.s) c.args.st d.size d.apart,
       n ∙ four_times l (2 ^ d.s) d.size,
       all_inside l l₁ l₂ (length l / 2) f k₁ k₂ (2 ^ d.s) d.size
           (inside c.args.y.now c.args.off (2 * c.args.st) d.s l₁ c.requires.as_many c.requires.small d.apart b first c.fill.ensures)
