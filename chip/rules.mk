@@ -1,7 +1,7 @@
 # The chip: the same proved module compiled for a Cortex-M4F, and programs on an emulated one.
 #
 # make chip         build/chip/libearmath.a; FOR=riscv32imafc or FOR=cortex-m33 for another target, build/$(FOR)/libearmath.a;
-#                   OPTIMIZE=-Os for a library of 15 KB instead of 21
+#                   OPTIMIZE=-Os for a library of 17 KB instead of 24
 # make chip-tests   the programs that the gate runs on the emulated chip
 # make chip-every   all 2^32 patterns of ONLY=ear_exp2, or of every function that takes one, on the emulated chip: the
 #                   same bits as on the host (an hour for each)

@@ -1,2 +1,4 @@
 pub mod EachFunction
+pub mod FirstWord
+pub mod Lines
 pub mod Patterns

@@ -1,10 +1,6 @@
 // What the program says in the place of an answer.
 
-ghost use Rattle.std.specs.Prelude.{◌≡◌};
-ghost use Rattle.ear.specs.declared.complaint.Complaint.TheVariants.{OutOfMemory};
-
 use crate::functions::Function;
-use std::alloc::{AllocError, AllocFailed};
 use std::{fmt, io};
 
 // Why there is no answer. A word that is at fault is shown as it was given.
@@ -15,7 +11,6 @@ pub enum Complaint<'a> {
     OneTooMany(&'a [u8]),
     NoValue,
     LongLine,
-    OutOfMemory,
 }
 
 impl<'a> Complaint<'a> {
@@ -24,7 +19,7 @@ impl<'a> Complaint<'a> {
             Complaint::NoFunction(word)
             | Complaint::NoPattern(word)
             | Complaint::OneTooMany(word) => Some(word),
-            Complaint::NoValue | Complaint::LongLine | Complaint::OutOfMemory => None,
+            Complaint::NoValue | Complaint::LongLine => None,
         }
     }
 
@@ -49,7 +44,6 @@ impl fmt::Display for Complaint<'_> {
             Complaint::OneTooMany(_) => f.write_str("is one pattern too many"),
             Complaint::NoValue => f.write_str("loudness takes b m T C and then one or more values"),
             Complaint::LongLine => f.write_str("a line of 65536 bytes or more ends the work"),
-            Complaint::OutOfMemory => f.write_str("no memory is left for this line"),
         }
     }
 }
@@ -60,21 +54,4 @@ fn write_names<W: fmt::Write>(f: &mut fmt::Formatter<W>) -> fmt::Result {
         write!(f, " {function}")?;
     }
     Ok(())
-}
-
-impl From<AllocError> for Complaint<'_> {
-    ghost from_gives = { λ _ complaint. complaint ≡ OutOfMemory };
-
-    fn from(_error: AllocError) -> Self {
-        Complaint::OutOfMemory
-    }
-}
-
-// What a `push` gives, with the value that was not stored. std has two errors of memory, and no type stands for both.
-impl<T: Drop> From<AllocFailed<T>> for Complaint<'_> {
-    ghost from_gives = { λ _ complaint. complaint ≡ OutOfMemory };
-
-    fn from(_error: AllocFailed<T>) -> Self {
-        Complaint::OutOfMemory
-    }
 }

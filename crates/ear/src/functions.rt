@@ -1,12 +1,13 @@
 // The functions by their names, and their answers as text.
 
-ghost use Rattle.std.specs.Prelude.{◌≡◌, ◌↔◌, ◌<◌, length, Some, IsErrOf};
+ghost use Rattle.std.specs.Prelude.{◌≡◌, ◌↔◌, ◌<◌, ◌≤◌, length, Some, IsErrOf};
 ghost use Rattle.std.specs.Iterator.{IsFinite};
+ghost use Rattle.ear.specs.declared.functions.Function.TheVariants.{Loudness};
 ghost use Rattle.ear.specs.Names.{name_of, Names};
 
 use crate::complaint::Complaint;
+use crate::floats::{Floats, MOST};
 use earmath::Channel;
-use std::alloc::{AllocError, Global};
 use std::fmt;
 use std::iter::once;
 use units::Refusal;
@@ -94,106 +95,122 @@ impl<'a> TryFrom<&'a [u8]> for Function {
 }
 
 // Results and refusals in one line, with a blank between two.
-fn listed<I: Iterator<Item = Result<u32, Refusal>>>(
-    alloc: Global,
+fn listed<W: fmt::Write, I: Iterator<Item = Result<u32, Refusal>>>(
+    f: &mut fmt::Formatter<W>,
     answers: I,
-) -> Result<String, AllocError>
+) -> fmt::Result
 where
     I: Drop,
     requires can { I.can_next answers }
     requires ends { IsFinite (I.remaining answers) }
 {
-    let mut line = String::new(alloc);
+    let mut is_first = true;
     for answer in answers {
-        if !line.is_empty() {
-            line.push(' ')?;
+        if !is_first {
+            f.write_str(" ")?;
         }
+        is_first = false;
         match answer {
-            Ok(bits) => write!(line, "{bits:08x}")?,
-            Err(refusal) => write!(line, "{refusal}")?,
+            Ok(bits) => write!(f, "{bits:08x}")?,
+            Err(refusal) => write!(f, "{refusal}")?,
         }
     }
-    Ok(line)
+    Ok(())
 }
 
 // A function of one argument, at each of the floats.
-fn each<F: Fn(f32) -> Result<u32, Refusal>>(
-    alloc: Global,
+fn each<W: fmt::Write, F: Fn(f32) -> Result<u32, Refusal>>(
+    f: &mut fmt::Formatter<W>,
     floats: &[f32],
     function: F,
-) -> Result<String, AllocError>
+) -> fmt::Result
     requires { F.IsAlwaysCallable function }
 {
-    listed(alloc, floats.iter().map(|x| function(*x)))
+    listed(f, floats.iter().map(|x| function(*x)))
 }
 
 // A function of two lists, of the first half and the second.
-fn halves<F: Fn(&[f32], &[f32]) -> Result<u32, Refusal>>(
-    alloc: Global,
+fn halves<W: fmt::Write, F: Fn(&[f32], &[f32]) -> Result<u32, Refusal>>(
+    f: &mut fmt::Formatter<W>,
     floats: &[f32],
     function: F,
-) -> Result<String, AllocError>
+) -> fmt::Result
     requires { F.IsAlwaysCallable function }
 {
     let (a, b) = floats.split_at(floats.len() / 2);
-    listed(alloc, once(function(a, b)))
+    listed(f, once(function(a, b)))
 }
 
 // The weight of each of the floats among all of them, or one refusal.
-fn weights<F: Fn(&[f32], &mut [u32]) -> Result<(), Refusal>>(
-    alloc: Global,
+fn weights<W: fmt::Write, F: Fn(&[f32], &mut [u32]) -> Result<(), Refusal>>(
+    f: &mut fmt::Formatter<W>,
     floats: &[f32],
     function: F,
-) -> Result<String, AllocError>
-    requires { F.IsAlwaysCallable function }
+) -> fmt::Result
+    requires call { F.IsAlwaysCallable function }
+    requires most { length floats.now ≤ 2048 }
 {
-    let mut weights = vec![in alloc; 0; floats.len()]?;
-    match function(floats, &mut weights) {
-        Ok(()) => listed(alloc, weights.iter().map(|weight| Ok(*weight))),
-        Err(refusal) => listed(alloc, once(Err(refusal))),
+    let mut buffer = [0; MOST];
+    let weights = &mut buffer[..floats.len()];
+    match function(floats, weights) {
+        Ok(()) => listed(f, weights.iter().map(|weight| Ok(*weight))),
+        Err(refusal) => listed(f, once(Err(refusal))),
     }
 }
 
 // A step for each of the values behind the channel b, m, T, C.
-fn loudness<'a>(alloc: Global, floats: &[f32]) -> Result<String, Complaint<'a>>
-    ensures { IsErrOf result Complaint.NoValue ↔ (length floats.now < 5) }
+fn loudness<W: fmt::Write>(f: &mut fmt::Formatter<W>, floats: &[f32]) -> fmt::Result
+    requires { 4 ≤ length floats.now }
 {
-    let [b, m, t, c, values @ ..] = floats else {
-        return Err(Complaint::NoValue);
-    };
-    if values.is_empty() {
-        return Err(Complaint::NoValue);
-    }
+    let (channel, values) = floats.split_at(4);
     let channel = Channel {
-        b: *b,
-        m: *m,
-        t: fixed::bits_of(*t),
-        c: fixed::bits_of(*c),
+        b: channel[0],
+        m: channel[1],
+        t: fixed::bits_of(channel[2]),
+        c: fixed::bits_of(channel[3]),
     };
-    Ok(each(alloc, values, |a| earmath::ear_loudness(channel, a))?)
+    each(f, values, |a| earmath::ear_loudness(channel, a))
 }
 
-// The answer of a function, in one line. A match and no table of functions: `rt ci` refuses a function pointer that is
-// handed out.
-pub fn apply<'a>(
-    alloc: Global,
+// What a function answers to floats. It is computed as it is written, since there is no room for its text.
+#[derive(Drop)]
+pub struct Answer<'a> {
     function: Function,
-    floats: &[f32],
-) -> Result<String, Complaint<'a>> {
-    Ok(match function {
-        Function::Sqrt => each(alloc, floats, earmath::ear_sqrt)?,
-        Function::Rsqrt => each(alloc, floats, earmath::ear_rsqrt)?,
-        Function::Exp2 => each(alloc, floats, earmath::ear_exp2)?,
-        Function::Exp => each(alloc, floats, earmath::ear_exp)?,
-        Function::Log2 => each(alloc, floats, earmath::ear_log2)?,
-        Function::Sinpi => each(alloc, floats, earmath::ear_sinpi)?,
-        Function::Cospi => each(alloc, floats, earmath::ear_cospi)?,
-        Function::Sin => each(alloc, floats, earmath::ear_sin)?,
-        Function::Cos => each(alloc, floats, earmath::ear_cos)?,
-        Function::Dot => halves(alloc, floats, earmath::ear_dot)?,
-        Function::DotNearest => halves(alloc, floats, earmath::ear_dot_nearest)?,
-        Function::Softmax2 => weights(alloc, floats, earmath::ear_softmax2)?,
-        Function::Softmax => weights(alloc, floats, earmath::ear_softmax)?,
-        Function::Loudness => loudness(alloc, floats)?,
-    })
+    floats: &'a [f32],
+    ghost most: { length floats.now ≤ 2048 },
+    ghost values: { function ≡ Loudness → 4 < length floats.now },
+}
+
+impl<'a> Answer<'a> {
+    pub fn new(function: Function, floats: &'a Floats) -> Result<Answer<'a>, Complaint<'static>>
+        ensures { IsErrOf result Complaint.NoValue ↔ (function ≡ Function.Loudness) × (length floats.now < 5) }
+    {
+        let floats = floats.as_slice();
+        if matches!(function, Function::Loudness) && floats.len() < 5 {
+            return Err(Complaint::NoValue);
+        }
+        Ok(Answer { function, floats })
+    }
+}
+
+// A match and no table of functions: `rt ci` refuses a function pointer that is handed out.
+impl fmt::Display for Answer<'_> {
+    fn fmt<W: fmt::Write>(&self, f: &mut fmt::Formatter<W>) -> fmt::Result {
+        match self.function {
+            Function::Sqrt => each(f, self.floats, earmath::ear_sqrt),
+            Function::Rsqrt => each(f, self.floats, earmath::ear_rsqrt),
+            Function::Exp2 => each(f, self.floats, earmath::ear_exp2),
+            Function::Exp => each(f, self.floats, earmath::ear_exp),
+            Function::Log2 => each(f, self.floats, earmath::ear_log2),
+            Function::Sinpi => each(f, self.floats, earmath::ear_sinpi),
+            Function::Cospi => each(f, self.floats, earmath::ear_cospi),
+            Function::Sin => each(f, self.floats, earmath::ear_sin),
+            Function::Cos => each(f, self.floats, earmath::ear_cos),
+            Function::Dot => halves(f, self.floats, earmath::ear_dot),
+            Function::DotNearest => halves(f, self.floats, earmath::ear_dot_nearest),
+            Function::Softmax2 => weights(f, self.floats, earmath::ear_softmax2),
+            Function::Softmax => weights(f, self.floats, earmath::ear_softmax),
+            Function::Loudness => loudness(f, self.floats),
+        }
+    }
 }

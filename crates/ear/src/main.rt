@@ -5,24 +5,23 @@
 #![tactic(auto)]
 
 mod complaint;
+mod floats;
 mod functions;
+mod line;
 mod words;
 
-ghost use Rattle.std.specs.Prelude.{◌≡◌, ◌<◌, ◌≤◌, None, Ok, IfOk, IfSome, length, map, take, vec_len};
-ghost use Rattle.ear.specs.Words.{float_of, one_line};
+ghost use Rattle.std.specs.Prelude.{◌≡◌, ◌≢◌, ◌<◌, ◌==◌, ◌∷◌, [], ◌++◌, ℕ, List, All, None, Ok, IfSome};
+ghost use Rattle.std.specs.Prelude.{length, position, take};
+ghost use Rattle.std.specs.Io.KnownBytes.{Consumes};
+ghost use Rattle.ear.specs.Words.{one_line, words_of};
 
 use complaint::Complaint;
-use functions::Function;
-use std::alloc::{AllocError, Global};
+use floats::Floats;
+use functions::{Answer, Function};
+use line::{Line, TOO_LONG};
 use std::env::FillError;
-use std::io::{BufRead, IsTerminal, Read};
+use std::io::{BufRead, IsTerminal};
 use std::rt::Env;
-
-// How many patterns a line may have.
-const MOST: usize = 2048;
-
-// Which length of a line is too long.
-const TOO_LONG: usize = 65536;
 
 const USAGE: &str = "\
 earmath FUNCTION PATTERN...   bit patterns in hexadecimal, as 40490fdb; a result's pattern for each, or OUT_OF_RANGE
@@ -33,54 +32,44 @@ dot dot_nearest               the first half of the patterns times the second
 softmax2 softmax              the weight of each pattern among all of them, base two or e
 loudness B M T C A...         the step of each A; T, C and steps in hexadecimal too";
 
-// What words say, as floats.
-fn floats<'a>(alloc: Global, words: &[&'a [u8]]) -> Result<Vec<f32>, Complaint<'a>>
-    ensures each { IfOk result (λ floats. floats.items ≡ map (λ word. float_of word.now) words.now) }
-    ensures most { IfOk result (λ floats. vec_len floats ≤ 2048) }
-{
-    let mut floats = Vec::new(alloc);
-    for word in words {
-        let bits = words::pattern(word).ok_or(Complaint::NoPattern(word))?;
-        if floats.len() == MOST {
-            return Err(Complaint::OneTooMany(word));
-        }
-        floats.push(patterns::float(bits))?;
-    }
-    Ok(floats)
-}
-
-// The answer to words: arguments of a function that is known, or else a function's name and arguments. There is none
-// to no words, nor to such a request that starts with #.
-fn answer<'a>(
-    alloc: Global,
+// What a line asks for: a function that is known, of all its words, or else the function that its first word names, of
+// the others. A line without words asks for nothing, nor does such a request that starts with #.
+fn asked<'a>(
     known: Option<Function>,
-    words: &[&'a [u8]],
-) -> Result<Option<String>, Complaint<'a>>
-    ensures { length words.now ≡ 0 → result ≡ Ok None }
+    line: &'a [u8],
+) -> Result<Option<(Function, &'a [u8])>, Complaint<'a>>
+    ensures { words_of line.now ≡ [] → result ≡ Ok None }
 {
-    let Some((first, others)) = words.split_first() else {
+    let Some((first, others)) = words::split_first(line) else {
         return Ok(None);
     };
-    let (function, arguments) = match known {
-        Some(function) => (function, words),
-        None if first.starts_with(b"#") => return Ok(None),
-        None => (Function::try_from(*first)?, others),
-    };
-    let floats = floats(alloc, arguments)?;
-    Ok(Some(functions::apply(alloc, function, &floats)?))
+    match known {
+        Some(function) => Ok(Some((function, line))),
+        None if first.starts_with(b"#") => Ok(None),
+        None => Ok(Some((Function::try_from(first)?, others))),
+    }
 }
 
-// Prints the answer to a line. What cannot be written is lost, as it is on a terminal that was closed.
-fn answer_line(rt: &(impl Print + AllocGlobal), known: Option<Function>, line: &[u8]) {
-    let answered = match words::words(rt.alloc(), line) {
-        Ok(words) => answer(rt.alloc(), known, &words),
-        Err(e) => Err(Complaint::from(e)),
-    };
-    let _ = match answered {
-        Ok(Some(text)) => rt.println(text),
-        Ok(None) => Ok(()),
-        Err(complaint) => complaint.print(rt),
-    };
+// Prints the answer to a line, if it asks for one. What cannot be written is lost, as it is on a terminal that was
+// closed.
+fn answer<'a>(
+    rt: &impl Print,
+    known: Option<Function>,
+    line: &'a [u8],
+) -> Result<(), Complaint<'a>> {
+    if let Some((function, arguments)) = asked(known, line)? {
+        let mut floats = Floats::new();
+        floats.fill(arguments)?;
+        let _ = rt.println(Answer::new(function, &floats)?);
+    }
+    Ok(())
+}
+
+// Prints the answer to a line, or why there is none.
+fn answer_line(rt: &impl Print, known: Option<Function>, line: &[u8]) {
+    if let Err(complaint) = answer(rt, known, line) {
+        let _ = complaint.print(rt);
+    }
 }
 
 // What ended a line of the input.
@@ -91,36 +80,62 @@ enum End {
     Length,
 }
 
+fn newline(bytes: &[u8]) -> Option<usize>
+    ensures { result ≡ position (λ byte. byte == 10) bytes.now }
+{
+    bytes.iter().position(|byte| *byte == b'\n')
+}
+
 // Puts the next line of the input into `line`. What cannot be read counts as the end of the input.
-fn read_line(input: &mut impl BufRead, line: &mut Vec<u8>) -> End
-    ensures input { result ≡ End.Input → vec_len line.new < 65536 }
-    ensures too_long { result ≡ End.Length → 65536 ≤ vec_len line.new }
+fn read_line<R: BufRead>(input: &mut R, line: &mut Line) -> End
+    ensures newline { result ≡ End.Newline → length line.new < 65536 }
+    ensures input { result ≡ End.Input → length line.new < 65536 }
+    ensures too_long { result ≡ End.Length → length line.new ≡ 65536 }
+    ensures one { All (λ byte. byte ≢ 10) line.new }
+    ensures ended { result ≡ End.Newline
+        → Consumes (R.remaining input.old) (R.remaining input.new) (line.new ++ 10 ∷ []) }
+    ensures open { result ≢ End.Newline → Consumes (R.remaining input.old) (R.remaining input.new) line.new }
 {
     line.clear();
-    // `as`, since no From makes a u64 of a usize
-    let _ = input.by_ref().take(TOO_LONG as u64).read_until(b'\n', line);
-    if line.pop_if(|byte| *byte == b'\n').is_some() {
-        End::Newline
-    } else if line.len() < TOO_LONG {
-        End::Input
-    } else {
-        End::Length
+    while line.len() < TOO_LONG {
+        let Ok(bytes) = input.fill_buf() else {
+            return End::Input;
+        };
+        let n = bytes.len().min(TOO_LONG - line.len());
+        if n == 0 {
+            return End::Input;
+        }
+        let bytes = &bytes[..n];
+        match newline(bytes) {
+            Some(end) => {
+                line.append(&bytes[..end]);
+                input.consume(end + 1);
+                return End::Newline;
+            }
+            None => {
+                line.append(bytes);
+                input.consume(n);
+            }
+        }
     }
+    End::Length
+}
+
+// The next line of the standard input. Its reader is let go before the line is answered, since it then seeks back over
+// what it has read ahead: others may read on from there.
+fn next_line(rt: &impl Input, line: &mut Line) -> End {
+    let mut input = rt.reader();
+    read_line(&mut input, line)
 }
 
 // The answers to the lines of the standard input.
-fn answer_lines(
-    rt: &(impl Print + Input + AllocGlobal),
-    known: Option<Function>,
-) -> Result<(), AllocError> {
-    let mut input = rt.reader();
-    let mut line = Vec::with_capacity(rt.alloc(), TOO_LONG)?;
+fn answer_lines(rt: &(impl Print + Input), known: Option<Function>, line: &mut Line) {
     // a loop that reads is to end, so it counts: no input has as many lines
     for _ in 0..u64::MAX {
-        match read_line(&mut input, &mut line) {
-            End::Newline => answer_line(rt, known, &line),
+        match next_line(rt, line) {
+            End::Newline => answer_line(rt, known, line.as_slice()),
             End::Input => {
-                answer_line(rt, known, &line);
+                answer_line(rt, known, line.as_slice());
                 break;
             }
             End::Length => {
@@ -129,75 +144,64 @@ fn answer_lines(
             }
         }
     }
-    Ok(())
 }
 
 // Word i of the command line, if it is there. One that is empty, or too long for the buffer, counts as a question mark.
 // `env::args` would refuse a word that is not UTF-8, so each is asked for as bytes, which fill a buffer that is lent.
-fn argument(rt: &(impl Env + AllocGlobal), i: usize) -> Result<Option<Vec<u8>>, AllocError>
-    ensures { IfOk result (λ word. IfSome word (λ bytes. 0 < vec_len bytes)) }
+fn argument<'a>(rt: &impl Env, i: usize, buffer: &'a mut [u8; 4096]) -> Option<&'a [u8]>
+    ensures { IfSome result (λ word. 0 < length word.now) }
 {
-    let mut buffer = [0; 4096];
-    let word = match rt.arg(i, &mut buffer) {
-        Err(FillError::NotPresent) => return Ok(None),
-        Ok(0) | Err(FillError::TooLong) => b"?",
-        Ok(n) => &buffer[..n],
-    };
-    Ok(Some(word.to_vec(rt.alloc())?))
+    match rt.arg(i, buffer) {
+        Err(FillError::NotPresent) => None,
+        Ok(0) | Err(FillError::TooLong) => Some(b"?"),
+        Ok(n) => Some(&buffer[..n]),
+    }
 }
 
-// The words of the command line, without the program's name.
-fn arguments(rt: &(impl Env + AllocGlobal)) -> Result<Vec<Vec<u8>>, AllocError> {
-    let mut words = Vec::new(rt.alloc());
+// Puts the words of the command line, without the program's name, into `line`, of which no more counts than of a line
+// of the input. Returns how many there are.
+fn arguments(rt: &impl Env, line: &mut Line) -> usize
+    ensures { (words : List (List ℕ)) × (length words ≡ result) × All (λ word. 0 < length word) words
+        × (line.new ≡ take 65536 (one_line words)) }
+{
+    line.clear();
     // counted, and no `env::args`, as `argument` says
     for i in 1..usize::MAX {
-        let Some(word) = argument(rt, i)? else {
-            break;
+        let mut buffer = [0; 4096];
+        let Some(word) = argument(rt, i, &mut buffer) else {
+            return i - 1;
         };
-        words.push(word)?;
+        line.append_word(word);
     }
-    Ok(words)
-}
-
-// Words as one line, of which no more counts than of a line of the input.
-fn line_of(alloc: Global, words: &[Vec<u8>]) -> Result<Vec<u8>, AllocError>
-    ensures { IfOk result (λ line. line.items ≡ take 65536 (one_line (map (λ word. word.items) words.now))) }
-{
-    let mut line = Vec::new(alloc);
-    for word in words {
-        line.extend_from_slice(word)?;
-        line.push(b' ')?;
-    }
-    line.truncate(TOO_LONG);
-    Ok(line)
+    usize::MAX - 1
 }
 
 // A single word: help, or a function for the lines of the standard input.
-fn single(rt: &(impl Print + Input + AllocGlobal), argument: &[u8]) -> Result<(), AllocError> {
-    let words = words::words(rt.alloc(), argument)?;
-    let word = words.first().copied().unwrap_or(b"");
+fn single(rt: &(impl Print + Input), line: &mut Line) {
+    let word = match words::split_first(line.as_slice()) {
+        Some((word, _)) => word,
+        None => b"",
+    };
     if matches!(word, b"help" | b"--help") {
         let _ = rt.println(USAGE);
-        return Ok(());
+        return;
     }
     match Function::try_from(word) {
-        Ok(function) => answer_lines(rt, Some(function)),
+        Ok(function) => answer_lines(rt, Some(function), line),
         Err(complaint) => {
             let _ = complaint.print(rt);
-            Ok(())
         }
     }
 }
 
-fn main(rt: HostRuntime) -> Result<(), AllocError> {
-    let words = arguments(&rt)?;
-    match words.as_slice() {
-        [] if rt.stdin().is_terminal() => {
+fn main(rt: HostRuntime) {
+    let mut line = Line::new();
+    match arguments(&rt, &mut line) {
+        0 if rt.stdin().is_terminal() => {
             let _ = rt.println(USAGE);
         }
-        [] => answer_lines(&rt, None)?,
-        [word] => single(&rt, word)?,
-        words => answer_line(&rt, None, &line_of(rt.alloc(), words)?),
+        0 => answer_lines(&rt, None, &mut line),
+        1 => single(&rt, &mut line),
+        _ => answer_line(&rt, None, line.as_slice()),
     }
-    Ok(())
 }

@@ -1,10 +1,9 @@
 // A line of text as words, and a word as a bit pattern.
 
-ghost use Rattle.std.specs.Prelude.{◌≡◌, map, IfOk, SomeIff};
+ghost use Rattle.std.specs.Prelude.{◌≡◌, ◌∷◌, [], not, position, MatchOption, SomeIff};
 ghost use Rattle.std.specs.Str.Parse.{digits_value};
 ghost use Rattle.ear.specs.Words.{is_blank, words_of, IsPattern};
 
-use std::alloc::{AllocError, Global};
 use std::str;
 
 // Does the byte stand between words? Any other is of a word, a form feed too.
@@ -14,13 +13,28 @@ fn is_blank(byte: u8) -> bool
     matches!(byte, b' ' | b'\t' | b'\r')
 }
 
-// The words of a line.
-pub fn words(alloc: Global, line: &[u8]) -> Result<Vec<&[u8]>, AllocError>
-    ensures { IfOk result (λ words. map (λ word. word.now) words.items ≡ words_of line.now) }
+fn word_start(line: &[u8]) -> Option<usize>
+    ensures { result ≡ position (λ byte. not (is_blank byte)) line.now }
 {
-    line.split(|byte| is_blank(*byte))
-        .filter(|word| !word.is_empty())
-        .collect(alloc)
+    line.iter().position(|byte| !is_blank(*byte))
+}
+
+fn word_end(line: &[u8]) -> Option<usize>
+    ensures { result ≡ position is_blank line.now }
+{
+    line.iter().position(|byte| is_blank(*byte))
+}
+
+// The first word of a line, and the line behind it.
+pub fn split_first(line: &[u8]) -> Option<(&[u8], &[u8])>
+    ensures { MatchOption result (words_of line.now ≡ [])
+        (λ split. words_of line.now ≡ split.0.now ∷ words_of split.1.now) }
+{
+    let word = &line[word_start(line)?..];
+    match word_end(word) {
+        Some(end) => Some(word.split_at(end)),
+        None => Some((word, &[])),
+    }
 }
 
 // The bit pattern that a word of 1 to 8 hexadecimal digits says.

@@ -10,8 +10,7 @@ use lib.ListN.{length, get_or, set, length-set}
 use lib.Seq.{get_or-set_same, get_or-set_other}
 use lib.Pow.{pow-add, pow_pos, pow_mono}
 use Rattle.units.proofs.Naturals.{le-or-lt}
-use Rattle.exactsums.specs.declared.Rows.{Rows}
-use Rattle.exactsums.specs.Work.{Exponent, IsProduct, number, Digits, SmallRow, Small}
+use Rattle.exactsums.specs.Work.{Exponent, IsProduct, number, Digits, Small}
 
 -- one place more
 pub number_next : (ds : List ℕ) (s n : ℕ) → number ds s (n + 1) ≡ number ds s n + get_or ds (s + n) 0 * 16 ^ n
@@ -131,27 +130,14 @@ digits_set ds j d h l m = record { long = length-set ds j d ∙ h.long; each = �
     below f = omega arith
 
 -- one product more
-row_more : (t : ℕ) (row : List ℕ) → SmallRow t row → SmallRow (suc t) row
-row_more t row h = record { long = h.long; each = λ k. le_trans (h.each k) (mul-le-mul_right (2 ^ 51) (omega arith)) }
+pub small_more : (t : ℕ) (bins : List ℕ) → Small t bins → Small (suc t) bins
+small_more t bins h = record { long = h.long; each = λ k. le_trans (h.each k) (mul-le-mul_right (2 ^ 51) (omega arith)) }
 
-row_set : (t : ℕ) (row : List ℕ) (i d : ℕ) → SmallRow t row → i < 41 → d ≤ 2 ^ 51 → SmallRow (suc t) (set row i (get_or row i 0 + d))
-row_set t row i d h l m = record {
-  long = length-set row i (get_or row i 0 + d) ∙ h.long;
-  each = set_each row i (get_or row i 0 + d) (suc t * 2 ^ 51) (lt_of_lt_of_le l (le_of_eq (sym h.long))) (row_more t row h).each (sum (h.each i));
-}
+pub small_set : (t : ℕ) (bins : List ℕ) (i d : ℕ) → Small t bins → i < 82 → d ≤ 2 ^ 51 → Small (suc t) (set bins i (get_or bins i 0 + d))
+small_set t bins i d h l m = record { long = length-set bins i (get_or bins i 0 + d) ∙ h.long; each = set_each bins i (get_or bins i 0 + d) (suc t * 2 ^ 51) (lt_of_lt_of_le l (le_of_eq (sym h.long))) (small_more t bins h).each (sum (h.each i)) }
   where
     sum : {x : ℕ} → x ≤ t * 2 ^ 51 → x + d ≤ suc t * 2 ^ 51
     sum f = omega arith
-
-pub small_more : (t : ℕ) (bins : Rows) → Small t bins → Small (suc t) bins
-small_more t bins h = record { above = row_more t bins.above h.above; below = row_more t bins.below h.below }
-
-module _ (t : ℕ) (bins : Rows) (k d : ℕ) (h : Small t bins) (l : k < 41) (m : d ≤ 2 ^ 51) where
-  pub small_above : Small (suc t) (record { above = set bins.above k (get_or bins.above k 0 + d); below = bins.below })
-  small_above = record { above = row_set t bins.above k d h.above l m; below = row_more t bins.below h.below }
-
-  pub small_below : Small (suc t) (record { above = bins.above; below = set bins.below k (get_or bins.below k 0 + d) })
-  small_below = record { above = row_more t bins.above h.above; below = row_set t bins.below k d h.below l m }
 
 -- ---- powers of 16 are powers of two
 pub sixteen : (n : ℕ) → 16 ^ n ≡ 2 ^ (4 * n)

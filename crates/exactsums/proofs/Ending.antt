@@ -13,8 +13,7 @@ use lib.Ieee.Bits.{to_bits-lt}
 use lib.Ieee.Fits.{round-fits}
 use Rattle.units.specs.Answers.{float_bits}
 use Rattle.exactsums.specs.Nearest.{rounded}
-use Rattle.exactsums.specs.declared.Rows.{Rows}
-use Rattle.exactsums.specs.Work.{number, Digits, SmallRow, Level, Subtracted, size_of}
+use Rattle.exactsums.specs.Work.{number, Digits, Level, Subtracted, size_of}
 use Rattle.exactsums.proofs.Bins.{number_less}
 use Rattle.exactsums.proofs.Rounding.{float, turned, rounded_plus, rounded_minus}
 
@@ -27,19 +26,17 @@ ones_each (suc n) (suc k) = ones_each n k
 pub ones_digits : Digits (replicate 41 1)
 ones_digits = record { long = refl; each = λ k. lt_of_le_of_lt (ones_each 41 k) (lit< tt) }
 
-ones_small : SmallRow 1 (replicate 41 1)
-ones_small = record { long = refl; each = λ k. le_trans (ones_each 41 k) (lit≤ tt) }
-
-pub ones_level : Level (record { above = replicate 41 1; below = replicate 41 1 })
-ones_level = record { small = record { above = ones_small; below = ones_small }; same = refl }
+pub ones_level : Level (replicate 82 1)
+unfolding number
+ones_level = record { small = record { long = refl; each = λ k. le_trans (ones_each 82 k) (lit≤ tt) }; same = refl }
 
 -- ---- the first row less the second, by its sign
-module _ (bins : Rows) (digits : List ℕ) (over under : ℕ) (h : Subtracted bins digits over under) where
+module _ (bins digits : List ℕ) (over under : ℕ) (h : Subtracted bins digits over under) where
   abbrev x : ℕ
-  x = number bins.above 0 41
+  x = number bins 0 41
 
   abbrev y : ℕ
-  y = number bins.below 0 41
+  y = number bins 41 41
 
   abbrev z : ℕ
   z = number digits 0 41

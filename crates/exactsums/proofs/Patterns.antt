@@ -17,8 +17,8 @@ use Rattle.units.proofs.Naturals.{le-or-lt}
 use Rattle.units.proofs.Patterns.{Shape, packed, packed_of, packed_le, packed_lt, finite_below, within, beyond}
 use Rattle.sums.specs.Sum.{above, below}
 use Rattle.exactsums.specs.Nearest.{Element}
-use Rattle.exactsums.specs.Work.{Sized, Exponent, IsProduct, number}
-use Rattle.exactsums.proofs.Bins.{number_more}
+use Rattle.exactsums.specs.Work.{Sized, Exponent, IsProduct, row_of, number}
+use Rattle.exactsums.proofs.Bins.{number_more, number_out}
 
 -- the first digit alone, as of a power of two
 first : (g : ℕ) → Shape 8388608 g
@@ -144,20 +144,27 @@ module _ (x y : Float) (r : Element x) (q : Element y) (b c : ℕ) (is : b ≡ f
       none (inl e) = ap (λ (n : ℕ). n * mag y) e ∙ zero-mul (mag y)
       none (inr e) = ap (λ (n : ℕ). mag x * n) e ∙ mul-zero (mag x)
 
-  -- else the product goes to one row
-  module _ (row : List ℕ) (long : length row ≡ 41) (d k : ℕ) (p : IsProduct b c d k) (z : Sized b) (w : Sized c) where
-    more : number (set row k (get_or row k 0 + d)) 0 41 * 2 ^ 172 ≡ number row 0 41 * 2 ^ 172 + mag x * mag y
-    more =
-        let h = p.room in
-        let m = number_more row 0 k d 41 (omega arith) (omega arith) in
-        ap (λ (n : ℕ). n * 2 ^ 172) (rw (zero-add k) at m) ∙ add-mul (number row 0 41) (d * 16 ^ k) (2 ^ 172)
-        ∙ ap (λ (n : ℕ). number row 0 41 * 2 ^ 172 + n) (sizes d k p z w)
+  -- else the product goes to one row, and the other row stays
+  module _ (bins : List ℕ) (long : length bins ≡ 82) (d k : ℕ) (p : IsProduct b c d k) (z : Sized b) (w : Sized c) where
+    abbrev after : ℕ → List ℕ
+    after i = set bins i (get_or bins i 0 + d)
 
-    -- with signs that are the same it is above zero, else below
-    pub adds_above : (b / 2147483648 + c / 2147483648) % 2 ≡ 0
-        → (number (set row k (get_or row k 0 + d)) 0 41 * 2 ^ 172 ≡ number row 0 41 * 2 ^ 172 + above x y) × (below x y ≡ 0)
-    adds_above e = let (u, v) = signs.0 e in (rw u more, v)
+    more : (s : ℕ) → s ≤ 41 → number (after (s + k)) s 41 * 2 ^ 172 ≡ number bins s 41 * 2 ^ 172 + mag x * mag y
+    more s l = let h = p.room in ap (λ (n : ℕ). n * 2 ^ 172) (number_more bins s k d 41 (omega arith) (omega arith)) ∙ add-mul (number bins s 41) (d * 16 ^ k) (2 ^ 172) ∙ ap (λ (n : ℕ). number bins s 41 * 2 ^ 172 + n) (sizes d k p z w)
 
-    pub adds_below : (b / 2147483648 + c / 2147483648) % 2 ≡ 1
-        → (above x y ≡ 0) × (number (set row k (get_or row k 0 + d)) 0 41 * 2 ^ 172 ≡ number row 0 41 * 2 ^ 172 + below x y)
-    adds_below e = let (u, v) = signs.1 e in (u, rw v more)
+    stays : (i s : ℕ) → (i < s) ⊎ (s + 41 ≤ i) → number (after i) s 41 * 2 ^ 172 ≡ number bins s 41 * 2 ^ 172 + 0
+    stays i s o = ap (λ (n : ℕ). n * 2 ^ 172) (number_out bins i (get_or bins i 0 + d) s 41 o) ∙ sym (add-zero (number bins s 41 * 2 ^ 172))
+
+    pub adds_one : (i : ℕ) → i ≡ row_of b c + k
+        → (number (after i) 0 41 * 2 ^ 172 ≡ number bins 0 41 * 2 ^ 172 + above x y) × (number (after i) 41 41 * 2 ^ 172 ≡ number bins 41 41 * 2 ^ 172 + below x y)
+    adds_one i at = elim (parity (b / 2147483648 + c / 2147483648)) [
+      | inl e ↦
+          let (u, v) = signs.0 e in
+          let h = p.room in
+          let f : i ≡ 0 + k = omega arith in
+          rw (u, v, f) (more 0 (omega arith), stays (0 + k) 41 (inl (omega arith)))
+      | inr e ↦
+          let (u, v) = signs.1 e in
+          let f : i ≡ 41 + k = omega arith in
+          rw (u, v, f) (stays (41 + k) 0 (inr (omega arith)), more 41 (omega arith))
+    ]

@@ -19,8 +19,7 @@ use Rattle.units.proofs.Ties.{rounds_even}
 use Rattle.sums.specs.Sum.{apart}
 use Rattle.sums.proofs.Apart.{near_apart, apart_least, apart-scaled}
 use Rattle.exactsums.specs.Nearest.{Lengths, Elements, Accepts, NearestDot, positives, negatives, rounded, distance}
-use Rattle.exactsums.specs.declared.Rows.{Rows}
-use Rattle.exactsums.specs.Work.{number, SmallRow, Gathered}
+use Rattle.exactsums.specs.Work.{number, Gathered}
 use Rattle.exactsums.proofs.Bins.{number_most}
 use Rattle.exactsums.proofs.Rounding.{rounded_plus, rounded_minus, float_zero}
 
@@ -151,12 +150,12 @@ unfolding apart
 same_apart p n q m e = omega arith
 
 -- ---- success: all products stand in the bins, x less y is the exact sum, in units of 2 ^ -126
-module _ (a b : List Float) (l : Lengths a b) (bins : Rows) (g : Gathered a b bins) where
+module _ (a b : List Float) (l : Lengths a b) (bins : List ℕ) (g : Gathered a b bins) where
   abbrev x : ℕ
-  x = number bins.above 0 41 * 2 ^ 172
+  x = number bins 0 41 * 2 ^ 172
 
   abbrev y : ℕ
-  y = number bins.below 0 41 * 2 ^ 172
+  y = number bins 41 41 * 2 ^ 172
 
   abbrev p : ℕ
   p = positives a b
@@ -165,8 +164,8 @@ module _ (a b : List Float) (l : Lengths a b) (bins : Rows) (g : Gathered a b bi
   n = negatives a b
 
   -- 41 bins of less than 2 ^ 64 hold less than 2 ^ 400
-  bounded : (row : List ℕ) → SmallRow 4097 row → number row 0 41 * 2 ^ 172 ≤ 2 ^ 400
-  bounded row h = le_trans (mul-le-mul_right (2 ^ 172) (number_most row 0 41 (4097 * 2 ^ 51) h.each)) (lit≤ tt)
+  bounded : (s : ℕ) → number bins s 41 * 2 ^ 172 ≤ 2 ^ 400
+  bounded s = le_trans (mul-le-mul_right (2 ^ 172) (number_most bins s 41 (4097 * 2 ^ 51) g.small.each)) (lit≤ tt)
 
   balance : x + n ≡ p + y
   balance = g.sum ∙ add_comm y p
@@ -177,8 +176,8 @@ module _ (a b : List Float) (l : Lengths a b) (bins : Rows) (g : Gathered a b bi
   promised : NearestDot a b 0 (rounded x y)
   promised =
       let z = rounded x y in
-      let u = bounded bins.above g.small.above in
-      let v = bounded bins.below g.small.below in
+      let u = bounded 0 in
+      let v = bounded 41 in
       record {
         bad_length = λ h. absurd (h l);
         out_of_range = λ k h. absurd (h g.elements);
@@ -187,7 +186,7 @@ module _ (a b : List Float) (l : Lengths a b) (bins : Rows) (g : Gathered a b bi
         finite = λ h. is_number x y u v;
         nearest = λ h w k. rw (far z, far w) at (is_nearest x y u v w k);
         even = λ h w k e. is_even x y u v w k (far w ∙ e ∙ sym (far z));
-        near = λ h. le_trans (le_of_eq (ap (λ (m : ℕ). m * 2 ^ 24) (sym (far z)))) (le_trans (is_near x y u v (number bins.above 0 41) (number bins.below 0 41) refl refl) (le_of_eq (same_apart x y p n balance)));
+        near = λ h. le_trans (le_of_eq (ap (λ (m : ℕ). m * 2 ^ 24) (sym (far z)))) (le_trans (is_near x y u v (number bins 0 41) (number bins 41 41) refl refl) (le_of_eq (same_apart x y p n balance)));
         zero = λ h e. same_difference x y p n balance ∙ is_zero p n e;
       }
 

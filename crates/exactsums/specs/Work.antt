@@ -6,7 +6,6 @@ use Rattle.units.specs.Answers.{float_bits}
 use Rattle.units.specs.Tests.{Tells}
 use Rattle.sums.specs.Sum.{above, below}
 use Rattle.exactsums.specs.Nearest.{Element, Elements, positives, negatives}
-use Rattle.exactsums.specs.declared.Rows.{Rows}
 
 -- the answer tells whether the float with the pattern b is accepted
 pub record Accepted (b : ℕ) (answer : Bool) : Type 0 where
@@ -42,46 +41,45 @@ pub record Digits (ds : List ℕ) : Type 0 where
   pub long : length ds ≡ 41
   pub each : (j : ℕ) → get_or ds j 0 < 16
 
--- 41 bins, none larger than t products can be
-pub record SmallRow (t : ℕ) (row : List ℕ) : Type 0 where
-  pub long : length row ≡ 41
-  pub each : (j : ℕ) → get_or row j 0 ≤ t * 2 ^ 51
+-- 82 bins, none larger than t products can be
+pub record Small (t : ℕ) (bins : List ℕ) : Type 0 where
+  pub long : length bins ≡ 82
+  pub each : (j : ℕ) → get_or bins j 0 ≤ t * 2 ^ 51
 
--- both rows
-pub record Small (t : ℕ) (bins : Rows) : Type 0 where
-  pub above : SmallRow t bins.above
-  pub below : SmallRow t bins.below
-
--- the bins before the first product: both rows are the same number
-pub record Level (bins : Rows) : Type 0 where
+-- 82 bins before the first product: both rows are the same number
+pub record Level (bins : List ℕ) : Type 0 where
   pub small : Small 1 bins
-  pub same : number bins.above 0 41 ≡ number bins.below 0 41
+  pub same : number bins 0 41 ≡ number bins 41 41
+
+-- where the row of a product starts: at 0 where the signs of the patterns are the same, else at 41
+abbrev pub row_of : ℕ → ℕ → ℕ
+row_of x y = (x / 2147483648 + y / 2147483648) % 2 * 41
 
 -- the product of the floats with the patterns x and y was added to the bins
-pub record Added (x y : ℕ) (before after : Rows) : Type 0 where
-  pub plus : (u w : Float) → Element u → Element w → x ≡ float_bits u → y ≡ float_bits w → number after.above 0 41 * 2 ^ 172 ≡ number before.above 0 41 * 2 ^ 172 + above u w
-  pub minus : (u w : Float) → Element u → Element w → x ≡ float_bits u → y ≡ float_bits w → number after.below 0 41 * 2 ^ 172 ≡ number before.below 0 41 * 2 ^ 172 + below u w
+pub record Added (x y : ℕ) (before after : List ℕ) : Type 0 where
+  pub plus : (u w : Float) → Element u → Element w → x ≡ float_bits u → y ≡ float_bits w → number after 0 41 * 2 ^ 172 ≡ number before 0 41 * 2 ^ 172 + above u w
+  pub minus : (u w : Float) → Element u → Element w → x ≡ float_bits u → y ≡ float_bits w → number after 41 41 * 2 ^ 172 ≡ number before 41 41 * 2 ^ 172 + below u w
   pub small : (t : ℕ) → Small t before → Small (suc t) after
 
 -- the answer tells whether the floats with the patterns x and y are accepted, and where they are, their product was added
-pub record Taken (x y : ℕ) (before after : Rows) (answer : Bool) : Type 0 where
+pub record Taken (x y : ℕ) (before after : List ℕ) (answer : Bool) : Type 0 where
   pub tells : (u w : Float) → T (fits binary32 u) → T (fits binary32 w) → x ≡ float_bits u → y ≡ float_bits w → Tells (Element u × Element w) answer
   pub added : answer ≡ true → Added x y before after
 
 -- all products stand in the bins: the row of the positive ones less that of the negative ones is the exact sum, in units of 2 ^ -126
-pub record Gathered (a b : List Float) (bins : Rows) : Type 0 where
+pub record Gathered (a b : List Float) (bins : List ℕ) : Type 0 where
   pub elements : Elements a b
-  pub sum : number bins.above 0 41 * 2 ^ 172 + negatives a b ≡ number bins.below 0 41 * 2 ^ 172 + positives a b
+  pub sum : number bins 0 41 * 2 ^ 172 + negatives a b ≡ number bins 41 41 * 2 ^ 172 + positives a b
   pub small : Small 4097 bins
 
 -- or an element is refused
-pub record Judged (a b : List Float) (bins : Rows) (answer : Bool) : Type 0 where
+pub record Judged (a b : List Float) (bins : List ℕ) (answer : Bool) : Type 0 where
   pub if_true : answer ≡ true → Gathered a b bins
   pub if_false : answer ≡ false → ¬ Elements a b
 
 -- the first row less the second is the number of the digits and (over - under) 16 ^ 41
-pub record Subtracted (bins : Rows) (digits : List ℕ) (over under : ℕ) : Type 0 where
-  pub same : number bins.above 0 41 + under * 16 ^ 41 ≡ number bins.below 0 41 + (number digits 0 41 + over * 16 ^ 41)
+pub record Subtracted (bins digits : List ℕ) (over under : ℕ) : Type 0 where
+  pub same : number bins 0 41 + under * 16 ^ 41 ≡ number bins 41 41 + (number digits 0 41 + over * 16 ^ 41)
   pub digits_each : Digits digits
   pub over_small : over ≤ 2 ^ 60
   pub under_small : under ≤ 2 ^ 60

@@ -10,7 +10,7 @@ ghost use Rattle.units.specs.Answers.{float_bits};
 ghost use Rattle.units.specs.Refusals.{Gives};
 ghost use Rattle.units.specs.Tests.{Tells};
 ghost use Rattle.exactsums.specs.Nearest.{NearestDot, rounded};
-ghost use Rattle.exactsums.specs.Work.{Sized, Accepted, Exponent, IsProduct, Added, Taken, number, Sticky, Digits};
+ghost use Rattle.exactsums.specs.Work.{Sized, Accepted, Exponent, IsProduct, row_of, Added, Taken, number, Sticky, Digits};
 ghost use Rattle.exactsums.specs.Work.{Small, Level, Judged, Subtracted, IsDigit, size_of, IsHead, IsClosed};
 
 use units::Refusal;
@@ -57,33 +57,41 @@ fn times(x: u32, y: u32) -> Product
     }
 }
 
-// Two rows of bins, for the products above zero and for those below, the lowest place first. Not `Copy`: 656 bytes are
-// lent, never copied. One list of 82 bins and an offset took the chip an instruction less for each product; a choice of
-// `&mut self.above` or `&mut self.below` in `add`, or two lists in a list, compile to the same as this does.
+// Two rows of 41 bins, the lowest place first: of the products above zero from bin 0 on, of those below from bin 41. One
+// list, so that the row is a number that is added: of two lists one is chosen by a jump, and of random signs every
+// second one is foretold wrongly (half as long again, of 4,096 elements on x86-64). Not `Copy`: 656 bytes are lent,
+// never copied.
 #[derive(Drop)]
 struct Rows {
-    above: [u64; 41],
-    below: [u64; 41],
+    bins: [u64; 82],
+}
+
+// Where the row starts that the product of the floats with the patterns x and y goes to.
+fn row(x: u32, y: u32) -> usize
+    ensures { result ≡ row_of x y }
+{
+    if x / 2147483648 == y / 2147483648 {
+        0
+    } else {
+        41
+    }
 }
 
 impl Rows {
     // Adds the product of the floats with the patterns x and y to its bin.
     fn add(&mut self, x: u32, y: u32)
-        requires { Sized x × Sized y × Small 4096 self.old }
-        ensures { Added x y self.old self.new }
+        requires { Sized x × Sized y × Small 4096 self.old.bins }
+        ensures { Added x y self.old.bins self.new.bins }
     {
         let t = times(x, y);
-        if x / 2147483648 == y / 2147483648 {
-            self.above[t.place] += t.digits;
-        } else {
-            self.below[t.place] += t.digits;
-        }
+        let k = row(x, y) + t.place;
+        self.bins[k] += t.digits;
     }
 
     // Adds the product of two floats, one of which may be 0; refused where one of them is.
     fn take(&mut self, x: u32, y: u32) -> Result<(), Refusal>
-        requires { Small 4096 self.old }
-        ensures taken { Taken x y self.old self.new (is_ok result) }
+        requires { Small 4096 self.old.bins }
+        ensures taken { Taken x y self.old.bins self.new.bins (is_ok result) }
         ensures refusal { IfErr result (λ refusal. refusal ≡ OutOfRange) }
     {
         if both_sized(x, y) {
@@ -102,8 +110,8 @@ impl Rows {
     // laid out for 64-bit addresses, and there finds them at other places. A place has 32 bits, as the chip's words
     // have.
     fn gather(&mut self, a: &[f32], b: &[f32]) -> Result<(), Refusal>
-        requires { (length a.now ≡ length b.now) × (length a.now ≤ 4096) × Level self.old }
-        ensures judged { Judged a.now b.now self.new (is_ok result) }
+        requires { (length a.now ≡ length b.now) × (length a.now ≤ 4096) × Level self.old.bins }
+        ensures judged { Judged a.now b.now self.new.bins (is_ok result) }
         ensures refusal { IfErr result (λ refusal. refusal ≡ OutOfRange) }
     {
         for i in 0..a.len() as u32 {
@@ -118,15 +126,15 @@ impl Rows {
     // The first row less the second, as digits base 16: both are carried upward, and what is borrowed counts with the
     // second. By places of 32 bits, as in `gather`: three lists are gone through at once.
     fn subtract(&self, digits: &mut [u32; 41]) -> Left
-        requires { Small 4097 self.now × Digits digits.old }
-        ensures { Subtracted self.now digits.new result.over result.under }
+        requires { Small 4097 self.now.bins × Digits digits.old }
+        ensures { Subtracted self.now.bins digits.new result.over result.under }
     {
         let mut over = 0;
         let mut under = 0;
         for j in 0..41u32 {
             let k = j as usize;
-            let x = self.above[k] + over;
-            let y = self.below[k] + under;
+            let x = self.bins[k] + over;
+            let y = self.bins[41 + k] + under;
             let low = x % 16;
             digits[k] = ((low + 16 - y % 16) % 16) as u32;
             over = x / 16;
@@ -137,8 +145,8 @@ impl Rows {
 
     // The pattern of the float nearest to the difference of the rows.
     fn difference(&self) -> u32
-        requires { Small 4097 self.now }
-        ensures { result ≡ float_bits (rounded (number self.now.above 0 41 * 2 ^ 172) (number self.now.below 0 41 * 2 ^ 172)) }
+        requires { Small 4097 self.now.bins }
+        ensures { result ≡ float_bits (rounded (number self.now.bins 0 41 * 2 ^ 172) (number self.now.bins 41 41 * 2 ^ 172)) }
     {
         let mut digits = [1u32; 41];
         let d = self.subtract(&mut digits);
@@ -249,10 +257,7 @@ pub fn dot_nearest(a: &[f32], b: &[f32]) -> Result<u32, Refusal>
     if a.len() != b.len() || 4096 < a.len() {
         return Err(Refusal::BadLength);
     }
-    let mut rows = Rows {
-        above: [1; 41],
-        below: [1; 41],
-    };
+    let mut rows = Rows { bins: [1; 82] };
     rows.gather(a, b)?;
     Ok(rows.difference())
 }

@@ -2,7 +2,7 @@
 -- from log2 1, and of 24 digits. Assumes nothing.
 use Rattle.std.proofs.Common.{◌≡◌, ℕ, ◌+◌, ◌-◌, ◌*◌, ◌/◌, ◌%◌, ◌^◌, ◌<◌, ◌≤◌, Bool, true, false, cond, ltb}
 use Rattle.std.proofs.Common.{sym, refl, ap, ◌∙◌, subst, inl, inr, le_trans, mul-le-mul_right}
-use Rattle.std.proofs.Common.{eq-zero-or-pos, arith, lit≤, le-ltb, eq-eqb, ne_eqb}
+use Rattle.std.proofs.Common.{eq-zero-or-pos, arith, lit≤, le-ltb, lt-ltb, eq-eqb, ne_eqb}
 use lib.Count.{count_leading_zeros}
 use lib.Ieee.{binary32, of_bits, to_bits}
 use Rattle.units.proofs.Bits.{Is, sign_bit, put, no_nan}
@@ -12,6 +12,16 @@ use Rattle.fixed.proofs.Rounding as fixed
 use Rattle.logs.proofs.Told.{width_most}
 use Rattle.logs.specs.Value.{log_of_one, sign_of, distance_of, first_word, width_of, is_left_open}
 use Rattle.logs.specs.Value.{is_above, fraction_of, settled_digits, log2_digits, rounded_bits}
+
+-- clear from log2 1 on
+pub sign_above : (w : ℕ) → log_of_one ≤ w → sign_of w ≡ 0
+unfolding sign_of
+sign_above w h = rw (le-ltb w log_of_one h)
+
+-- set below
+pub sign_below : (w : ℕ) → w < log_of_one → sign_of w ≡ 2147483648
+unfolding sign_of
+sign_below w h = rw (lt-ltb w log_of_one h)
 
 -- ---- the sign's bit
 -- one bit

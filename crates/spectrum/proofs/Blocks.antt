@@ -3,7 +3,7 @@ use mathlib.Core.Path.{◌≡◌, refl, sym, ap, ap₂, ◌∙◌, subst}
 use mathlib.Core.Logic.{inl, inr}
 use mathlib.Core.List.{List, [], ◌∷◌, ◌++◌}
 use Prim.Native.Nat.{ℕ, zero, suc, ◌+◌, ◌-◌, ◌*◌, ◌/◌, ◌^◌, ◌≤◌, ◌<◌}
-use native.Mathlib.Nat.{pow-suc, le_of_suc-le-suc, not-suc-le-zero, mul-le-mul_left, le_trans}
+use native.Mathlib.Nat.{pow-suc, le_of_suc-le-suc, not-suc-le-zero, mul-le-mul_left, mul-le-mul_right, le_trans}
 use native.Mathlib.Omega.{arith}
 use lib.Dec.{T, leb, leb→le}
 use lib.Pow.{pow_pos, pow_mono}
@@ -238,6 +238,27 @@ rest_half l s f = same (2 ^ s) f
   where
     same : (x : ℕ) → length l ≡ 4 * x → length l - length l / 2 ≡ length l / 2
     same x f = omega arith
+
+-- ---- strides
+pub stride_of : {y : List ℕ} {off st n : ℕ} → Fillable y off st n → n ≡ 4 → st ≡ 32
+stride_of {st = st} {n = n} f e = one (2 ^ f.s) f.size f.apart
+  where
+    one : (x : ℕ) → n ≡ 4 * x → x * st ≡ 32 → st ≡ 32
+    one x h g = omega (arith, ap (λ (z : ℕ). z * st) (unit_of x h))
+      where
+        unit_of : (x : ℕ) → n ≡ 4 * x → x ≡ 1
+        unit_of x h = omega arith
+
+pub stride_most : {y : List ℕ} {off st n : ℕ} → Fillable y off st n → st ≤ 32
+stride_most {st = st} f = omega (arith, mul-le-mul_right st (pow_pos f.s), f.apart)
+
+-- a block has at most 128 words
+pub quarter_most : (g st : ℕ) → g * st ≡ 32 → g ≤ 32
+quarter_most g zero e = absurd (omega arith)
+quarter_most g (suc st) e = omega arith
+
+pub words_most : {y : List ℕ} {off st n : ℕ} → Fillable y off st n → n ≤ 128
+words_most {st = st} f = omega (arith, quarter_most (2 ^ f.s) st f.apart, f.size)
 
 pub four_times : (l : List ℕ) (x : ℕ) → length l ≡ 8 * x → length l ≡ 4 * (length l / 2 / 2)
 four_times l x e = omega arith

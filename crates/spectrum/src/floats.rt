@@ -86,8 +86,8 @@ impl Scaling {
     }
 
     // All of them.
-    pub fn load_all(self, x: &[f32], y: &mut [u64; 128])
-        requires long { length x.now ≡ 128 }
+    pub fn load_all(self, x: &[f32], y: &mut [u64])
+        requires long { (length x.now ≡ 128) × (length y.old ≡ 128) }
         requires within { (i : ℕ) → i < 128 → Number (at x.now i) × (mag (at x.now i) < 2 ^ self.digits) }
         ensures { Loaded self.digits x.now y.new }
     {
@@ -140,8 +140,8 @@ impl Scaling {
     }
 
     // The real parts, from the front of the block.
-    pub fn store_real(self, r: &[u64; 128], re: &mut [u32])
-        requires long { length re.old ≡ 65 }
+    pub fn store_real(self, r: &[u64], re: &mut [u32])
+        requires long { (length r.now ≡ 128) × (length re.old ≡ 65) }
         requires holdable { (i : ℕ) → i < 128 → Holdable (get_or r.now i 0) }
         ensures { StoredReal self.digits r.now re.new }
     {
@@ -149,8 +149,8 @@ impl Scaling {
     }
 
     // The imaginary parts, from its end; the first and the last are zero.
-    pub fn store_imaginary(self, r: &[u64; 128], im: &mut [u32])
-        requires long { length im.old ≡ 65 }
+    pub fn store_imaginary(self, r: &[u64], im: &mut [u32])
+        requires long { (length r.now ≡ 128) × (length im.old ≡ 65) }
         requires holdable { (i : ℕ) → i < 128 → Holdable (get_or r.now i 0) }
         ensures { StoredImaginary self.digits r.now im.new }
     {

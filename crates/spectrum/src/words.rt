@@ -131,8 +131,8 @@ impl Stage {
 }
 
 // The block of the four words of y at off, off + 32, off + 64 and off + 96.
-fn leaf(y: &[u64; 128], off: usize, r: &mut [u64])
-    requires { (off < 32) × (length r.old ≡ 4) × ((i : ℕ) → i < 128 → Small (get_or y.now i 0)) }
+fn leaf(y: &[u64], off: usize, r: &mut [u64])
+    requires { (off < 32) × (length y.now ≡ 128) × (length r.old ≡ 4) × ((i : ℕ) → i < 128 → Small (get_or y.now i 0)) }
     ensures { Four (get_or y.now off 0) (get_or y.now (off + 32) 0) (get_or y.now (off + 64) 0)
         (get_or y.now (off + 96) 0) (λ i. get_or r.new i 0) }
 {
@@ -147,7 +147,7 @@ fn leaf(y: &[u64; 128], off: usize, r: &mut [u64])
 }
 
 // The words of y at off, off + st, off + 2 st, .. become the block r.
-pub fn fill(y: &[u64; 128], off: usize, st: usize, r: &mut [u64])
+pub fn fill(y: &[u64], off: usize, st: usize, r: &mut [u64])
     requires { Fillable y.now off st (length r.old) }
     ensures { FilledWith y.now off st r.new }
 {

@@ -51,7 +51,7 @@ number_elements (x ∷ a) (y ∷ b) p q e =
     omega arith
 
 -- ---- the program's test of a float, and of all elements
-same_finite : (x : Float) → float_is_finite x ≡ finite x
+pub same_finite : (x : Float) → float_is_finite x ≡ finite x
 unfolding float_is_finite
 same_finite nan = refl
 same_finite (inf s) = refl

@@ -5,6 +5,7 @@
 ghost use Rattle.std.specs.Prelude.{◌≡◌, ℕ, ◌+◌, ◌*◌, ◌/◌, ◌^◌, ◌≤◌, ◌<◌};
 ghost use Rattle.std.specs.Prelude.{◌↔◌, length, slice_index_or, EachIndex, IsTrue, IfOk, IfErr};
 ghost use Rattle.std.specs.Float.{nan, float_is_finite};
+ghost use Rattle.std.specs.Float.Ieee.Scale.{finite};
 ghost use Rattle.units.specs.declared.refusal.Refusal.TheVariants.{BadLength};
 ghost use Rattle.units.specs.Answers.{float_bits};
 ghost use Rattle.units.specs.Refusals.{Gives};
@@ -217,13 +218,22 @@ impl Tally {
     }
 }
 
+// Between the greatest float and its opposite: no NaN and no infinity. By two comparisons and no `x.is_finite()`: std
+// takes x from itself, which of an infinity raises "invalid".
+fn is_finite(x: f32) -> bool
+    ensures told { result ≡ finite x }
+    ensures value { result ≡ float_is_finite x }
+{
+    f32::from_bits(0xff7f_ffff) <= x && x <= f32::from_bits(0x7f7f_ffff)
+}
+
 // Is every element finite? A `for`, since `all` asks for an `Option` of a reference each time: the chip's archive is
 // compiled from the module that is laid out for 64-bit addresses, and there finds the reference at another place.
 fn all_finite(a: &[f32]) -> bool
     ensures { IsTrue result ↔ EachIndex a.now (λ k. IsTrue (float_is_finite (slice_index_or a.now k nan))) }
 {
     for x in a {
-        if !x.is_finite() {
+        if !is_finite(*x) {
             return false;
         }
     }
@@ -237,7 +247,7 @@ pub fn dot(a: &[f32], b: &[f32]) -> Result<u32, Refusal>
     ensures { Gives float_bits (Dot a.now b.now) result }
 {
     let s = Pair::new(a, b)?.in_pairs();
-    if s.is_finite() {
+    if is_finite(s) {
         return Ok(s.to_bits());
     }
     if all_finite(a) && all_finite(b) {

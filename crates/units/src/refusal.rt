@@ -1,7 +1,7 @@
 // Why a call is refused.
 
-ghost use Rattle.std.specs.Prelude.{◌≡◌};
-ghost use Rattle.units.specs.Refusals.{code_of};
+ghost use Rattle.std.specs.Prelude.{◌≡◌, Some};
+ghost use Rattle.units.specs.Refusals.{code_of, refusal_name};
 
 use std::error::Error;
 use std::fmt;
@@ -34,6 +34,8 @@ impl From<Refusal> for u32 {
 }
 
 impl fmt::Display for Refusal {
+    ghost output = { λ refusal. Some (refusal_name refusal) };
+
     fn fmt<W: fmt::Write>(&self, f: &mut fmt::Formatter<W>) -> fmt::Result {
         f.write_str(match self {
             Refusal::OutOfRange => "OUT_OF_RANGE",

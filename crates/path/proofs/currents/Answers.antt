@@ -10,9 +10,29 @@ use Rattle.path.specs.Path.{Lengths, Bands, Accepts}
 use Rattle.path.specs.Ready.{AllBands, SteppedBy}
 use Rattle.path.proofs.Chunks.{bands_among, bands_alone, stepped}
 use Rattle.path.proofs.Samples.{samples_of, all_small}
-use Rattle.path.proofs.Promise.{refused_band, refused_sample, promised}
-use Rattle.path.proofs.currents.Goals.{Else-not-is_empty}
+use Rattle.path.proofs.Promise.{refused_length, refused_band, refused_sample, promised}
+use Rattle.path.proofs.currents.Goals.{Else-not-is_empty, then-x-ne128-via-then-x-ne128}
+use Rattle.path.proofs.currents.Goals.{then-x-ne128-via-else-x-ne128+then-w-ne128}
+use Rattle.path.proofs.currents.Goals.{then-x-ne128-via-else-x-ne128+else-w-ne128+then-n-eq0}
+use Rattle.path.proofs.currents.Goals.{then-x-ne128-via-else-x-ne128+else-w-ne128+else-n-eq0+then-n-gt65}
+use Rattle.path.proofs.currents.Goals.{then-x-ne128-via-else-x-ne128+else-w-ne128+else-n-eq0+else-n-gt65+then-bands-n}
+use Rattle.path.proofs.currents.Goals.{then-x-ne128-via-else-x-ne128+else-w-ne128+else-n-eq0+else-n-gt65+else-bands-n+then-not-is_empty}
 use Rattle.path.proofs.currents.Goals as goal
+
+pub returns-then-x-ne128 : goal.returns-then-x-ne128
+returns-then-x-ne128 c =
+    refused_length c.args.top c.args.x.now c.args.w.now c.args.bands.now (length c.args.out.now)
+    (λ l. elim c.then-x-ne128.branch [
+      | then-x-ne128-via-then-x-ne128 w ↦ w.if-x-ne128.true l.samples
+      | then-x-ne128-via-else-x-ne128+then-w-ne128 w ↦ w.if-w-ne128.true l.window
+      | then-x-ne128-via-else-x-ne128+else-w-ne128+then-n-eq0 w ↦ omega (arith, l.some, w.if-n-eq0.true)
+      | then-x-ne128-via-else-x-ne128+else-w-ne128+else-n-eq0+then-n-gt65 w ↦
+          omega (arith, l.few, w.if-n-gt65.true)
+      | then-x-ne128-via-else-x-ne128+else-w-ne128+else-n-eq0+else-n-gt65+then-bands-n w ↦
+          w.if-bands-n.true (omega (arith, l.words, c.as_chunks.ensures.front_len))
+      | then-x-ne128-via-else-x-ne128+else-w-ne128+else-n-eq0+else-n-gt65+else-bands-n+then-not-is_empty w ↦
+          search rules
+    ])
 
 -- behind the tests of lengths
 lengths : (c : Else-not-is_empty) → Lengths c.args.x.now c.args.w.now c.args.bands.now (length c.args.out.now)

@@ -1,11 +1,13 @@
 -- `sums::dot` meets its promise: each return is lists whose sum is finite, or lists that the tests show are refused. Assumes nothing.
 use mathlib.Core.Path.{◌≡◌, sym, ap₂, ◌∙◌}
 use mathlib.Core.Bool.{true≢false}
-use Rattle.units.specs.declared.refusal.Refusal.TheVariants.{OutOfRange, Overflow}
+use Rattle.std.proofs.lemmas.Result.{err_from_is_err_and}
+use Rattle.units.specs.declared.refusal.Refusal.TheVariants.{OutOfRange, BadLength, Overflow}
+use Rattle.units.proofs.Size.{finite_real}
 use Rattle.units.proofs.Answers.{ok, err}
 use Rattle.sums.specs.Dot.{Lengths, dot_of}
 use Rattle.sums.proofs.Lists.{finite_of, finite_back, all_finite_of, each_finite}
-use Rattle.sums.proofs.DotProduct.{success, refused_element, refused_overflow}
+use Rattle.sums.proofs.DotProduct.{success, refused_lengths, refused_element, refused_overflow}
 use Rattle.sums.proofs.dot.Goals.{After-in_pairs-s, else-all_finite-via-then-all_finite+else-all_finite-2, else-all_finite-via-else-all_finite}
 use Rattle.sums.proofs.dot.Goals as goal
 
@@ -15,6 +17,17 @@ lengths c = let (i, j) = c.in_ok-new.ensures.of in rw (i, j) at c.in_ok-new.fiel
 
 sum : (c : After-in_pairs-s) → c.in_pairs-s.result ≡ dot_of c.args.a.now c.args.b.now
 sum c = let (i, j) = c.in_ok-new.ensures.of in c.in_pairs-s.ensures ∙ ap₂ dot_of i j
+
+-- other lengths
+pub returns-in_err-new : goal.returns-in_err-new
+returns-in_err-new c =
+    let p = err_from_is_err_and c.from_residual.result c.from_residual.ensures.1 in
+    let (bad, none) = c.in_err-new.ensures.refusal in
+    rw (p.1, p.2, bad) (err {before = 0} BadLength (refused_lengths c.args.a.now c.args.b.now none))
+
+pub float_to_bits-result : goal.float_to_bits-result
+float_to_bits-result c =
+    finite_real c.in_pairs-s.result (finite_of c.in_pairs-s.result (sym c.is_finite.ensures.value ∙ c.if-is_finite.true))
 
 pub returns-then-is_finite : goal.returns-then-is_finite
 returns-then-is_finite c =

@@ -18,23 +18,22 @@ subtract-d-requires c = (c.requires, ones_digits)
 pub returns-then-d : goal.returns-then-d
 returns-then-d c =
     let d = c.subtract-d.result in
-    c.rounded.ensures ∙ ap float_bits (positive c.args.self.now _ d.over d.under c.subtract-d.ensures c.if-d.true)
+    c.rounded.ensures ∙ ap float_bits (positive c.args.self.now.bins _ d.over d.under c.subtract-d.ensures c.if-d.true)
 
 -- ---- below zero
 turned : (c : After-rounded-2)
     → 2147483648 + c.rounded-2.result
-    ≡ float_bits (rounded (number c.args.self.now.above 0 41 * 2 ^ 172) (number c.args.self.now.below 0 41 * 2 ^ 172))
+    ≡ float_bits (rounded (number c.args.self.now.bins 0 41 * 2 ^ 172) (number c.args.self.now.bins 41 41 * 2 ^ 172))
 turned c =
     let d = c.subtract-d.result in
     ap (λ (n : ℕ). 2147483648 + n) c.rounded-2.ensures
-    ∙ negative c.args.self.now _ d.over d.under c.subtract-d.ensures c.if-d.false
+    ∙ negative c.args.self.now.bins _ d.over d.under c.subtract-d.ensures c.if-d.false
 
 pub overflow_add-result : goal.overflow_add-result
 overflow_add-result c =
     let same = turned (goal.at.overflow_add-result c).After-rounded-2 in
-    let x = number c.args.self.now.above 0 41 * 2 ^ 172 in
-    let y = number c.args.self.now.below 0 41 * 2 ^ 172 in
-    let l = lt_of_le_of_lt (le_of_eq same) (pattern_fits x y) in
+    let bins = c.args.self.now.bins in
+    let l = lt_of_le_of_lt (le_of_eq same) (pattern_fits (number bins 0 41 * 2 ^ 172) (number bins 41 41 * 2 ^ 172)) in
     omega (arith, l)
 
 pub returns : goal.returns

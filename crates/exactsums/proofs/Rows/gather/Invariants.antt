@@ -4,4 +4,4 @@ use Rattle.exactsums.proofs.Gathering.{Underway}
 use Rattle.exactsums.proofs.Rows.gather.Given as goal
 
 abbrev pub invariant-loop-i : goal.invariant-loop-i
-invariant-loop-i l = Underway l.a l.b l.self l.i
+invariant-loop-i l = Underway l.a l.b l.self.bins l.i

@@ -10,5 +10,5 @@ invariant-loop-j l = record {
   over : l.over ≤ 2 ^ 60;
   under : l.under ≤ 2 ^ 60;
   digits : Digits l.digits;
-  same : number l.self.above 0 l.j + l.under * 16 ^ l.j ≡ number l.self.below 0 l.j + (number l.digits 0 l.j + l.over * 16 ^ l.j);
+  same : number l.self.bins 0 l.j + l.under * 16 ^ l.j ≡ number l.self.bins 41 l.j + (number l.digits 0 l.j + l.over * 16 ^ l.j);
 }

@@ -24,5 +24,5 @@ returns-then-accepted-2-clause-taken c =
         if_true = λ e. ((x u f is).if_true c.if-accepted.true, (y w g js).if_true c.if-accepted-2.true);
         if_false = λ e. absurd (true≢false e);
       };
-      added = λ e. added_none c.args.x c.args.y c.args.self.now (c.both_sized.ensures.if_false c.if-both_sized.false);
+      added = λ e. added_none c.args.x c.args.y c.args.self.now.bins (c.both_sized.ensures.if_false c.if-both_sized.false);
     }
