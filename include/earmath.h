@@ -211,7 +211,7 @@ uint32_t ear_softmax2_in_place(float *p, uint64_t n);
  *          or more.
  *
  * x, re and im must be valid, aligned pointers to nx, nre and nim floats, and no
- * two of the lists may overlap. A call needs 3.1 KB of stack on a Cortex-M4F.
+ * two of the lists may overlap. A call needs 2.8 KB of stack on a Cortex-M4F.
  */
 uint32_t ear_transform128(const float *x, uint64_t nx, float *re, uint64_t nre, float *im,
                           uint64_t nim);
